@@ -1,0 +1,4 @@
+//! Data structures that the crates above print and collect with.
+#![tactic(auto)]
+
+pub mod code_buffer;
