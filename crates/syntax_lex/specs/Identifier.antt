@@ -1,0 +1,24 @@
+-- Identifier names (ECMA-262, 12.7). A text is its bytes, a character its code point.
+use Rattle.std.specs.Prelude.{ℕ, Bool, false, ◌||◌, ◌&&◌, ◌==◌, nat_lt, List, [], ◌∷◌, if◌then◌else◌}
+use Rattle.std.specs.Char.{is_ascii_alphabetic, is_ascii_digit}
+use Rattle.std.specs.List.{list_all}
+use Rattle.std.specs.Str.{chars}
+use Rattle.unicode.specs.Binary.{is_id_start, is_id_continue}
+
+-- an ASCII letter, `$` or `_`; past ASCII a character with the property ID_Start
+abbrev pub is_identifier_start : ℕ → Bool
+is_identifier_start c = if nat_lt c 128 then is_ascii_alphabetic c || (c == 36) || (c == 95) else is_id_start c
+
+-- a start or an ASCII digit; past ASCII one with the property ID_Continue, U+200C or U+200D
+abbrev pub is_identifier_part : ℕ → Bool
+is_identifier_part c =
+    if nat_lt c 128 then is_ascii_alphabetic c || is_ascii_digit c || (c == 36) || (c == 95)
+    else is_id_continue c || (c == 8204) || (c == 8205)
+
+-- a start, then parts only
+abbrev pub are_identifier_characters : List ℕ → Bool
+are_identifier_characters [] = false
+are_identifier_characters (c ∷ cs) = is_identifier_start c && list_all is_identifier_part cs
+
+unfoldable pub is_identifier_name : List ℕ → Bool
+is_identifier_name text = are_identifier_characters (chars text)

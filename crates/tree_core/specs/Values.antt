@@ -1,0 +1,94 @@
+-- The value of a tree, and the paths to its literals that are marked.
+use Rattle.std.specs.Prelude.{ℕ, zero, suc, pos, Bool, true, false, ◌&&◌, List, [], ◌∷◌, ◌++◌, map, get_or, codes, Option, Some, None, if◌then◌else◌}
+use Rattle.json_text.specs.Json.{Json, null, truth, whole as number, string, list, object, Items, no_items, item, Members, no_members, member}
+use Rattle.tree_core.specs.declared.table.Class.{Class as FieldClass}
+use Rattle.json_text.specs.Units.{units_of}
+use Rattle.tree_core.specs.Along.{Along, all, each, first_column, other_columns}
+use Rattle.tree_core.specs.Literals.{is_fixed}
+use Rattle.tree_core.specs.Table.{Column, row, word_list}
+use Rattle.tree_core.specs.Tree.{Atom, Parts, Tree, atom, child, done, empty, flag, many, text, units, whole, word}
+use Rattle.tree_core.specs.declared.kind.Kind.{Kind}
+use Rattle.tree_core.specs.declared.kind.Kind.TheVariants.{Literal}
+use Rattle.tree_core.specs.declared.table.Class.TheVariants.{Pattern, Raw, Word}
+
+abbrev pub word_text : FieldClass → ℕ → List ℕ
+word_text (Word w) k = get_or (word_list w) k []
+word_text _ k = []
+
+abbrev pub atom_value : FieldClass → Atom → Json
+atom_value c empty = null
+atom_value c (flag b) = truth b
+atom_value c (word k) = string (word_text c k)
+atom_value c (text t) = string (units_of t)
+atom_value c (units us) = string us
+atom_value c (whole n) = number (pos n)
+
+abbrev pub is_null_atom : Atom → Bool
+is_null_atom empty = true
+is_null_atom _ = false
+
+-- the first of two fields in one object takes the member after it into that object
+abbrev pub held : List ℕ → List ℕ → Json → Members → Members
+held outer k v no_members = no_members
+held outer k v (member l w more) = member outer (object (member k v (member l w no_members))) more
+
+abbrev pub without_next : Members → Members
+without_next no_members = no_members
+without_next (member l w more) = more
+
+-- the members of a field and of those after it; `regex` is left out where there is none
+abbrev pub put_member : Column → Atom → Members → Members
+put_member c a rest = elim c.class [
+  | Pattern ↦ (if is_null_atom a then without_next rest else held (codes "regex") c.key (atom_value c.class a) rest)
+  | Raw ↦ held (codes "value") c.key (atom_value c.class a) rest
+  | _ ↦ (if c.omit && is_null_atom a then rest else member c.key (atom_value c.class a) rest)
+]
+
+abbrev pub node_value : Kind → ℕ → ℕ → Members → Json
+node_value k s e fields = object (member (codes "type") (string (row k).name) (member (codes "start") (number (pos s)) (member (codes "end") (number (pos e)) fields)))
+
+abbrev mutual
+  pub fields_value : Parts → List Column → Members
+  fields_value done cs = no_members
+  fields_value (atom a rest) [] = no_members
+  fields_value (atom a rest) (c ∷ cs) = put_member c a (fields_value rest cs)
+  fields_value (child k s e fs rest) [] = no_members
+  fields_value (child k s e fs rest) (c ∷ cs) = member c.key (node_value k s e (fields_value fs (row k).columns)) (fields_value rest cs)
+  fields_value (many items rest) [] = no_members
+  fields_value (many items rest) (c ∷ cs) = member c.key (list (items_value items)) (fields_value rest cs)
+
+  pub items_value : Parts → Items
+  items_value done = no_items
+  items_value (atom a rest) = item null (items_value rest)
+  items_value (child k s e fs rest) = item (node_value k s e (fields_value fs (row k).columns)) (items_value rest)
+  items_value (many items rest) = items_value rest
+
+abbrev pub value_of : Tree → Json
+value_of t = node_value t.kind t.start t.stop (fields_value t.fields (row t.kind).columns)
+
+-- ---- paths
+
+pub data Step : Type 0 where
+  key : List ℕ → Step
+  index : ℕ → Step
+
+-- the step to the i-th part
+unfoldable pub step_to : Along → ℕ → Step
+step_to (each []) i = index i
+step_to (each (c ∷ cs)) i = key c.key
+step_to (all c) i = index i
+
+unfoldable pub own_path : Kind → Parts → List (List Step)
+own_path Literal fields = if is_fixed fields then [] ∷ [] else []
+own_path _ fields = []
+
+unfoldable pub paths_from : Parts → Along → ℕ → List (List Step)
+paths_from done cs i = []
+paths_from (atom a more) cs i = paths_from more (other_columns cs) (suc i)
+paths_from (many items more) cs i = map (λ p. step_to cs i ∷ p) (paths_from items (all (first_column cs)) 0) ++ paths_from more (other_columns cs) (suc i)
+paths_from (child k s e fields more) cs i =
+    map (λ p. step_to cs i ∷ p) (own_path k fields ++ paths_from fields (each (row k).columns) 0) ++ paths_from more (other_columns cs) (suc i)
+
+-- the paths from the root to the literals that are BigInt or RegExp, in printing order
+unfoldable pub fix_paths : Tree → List (List Step)
+fix_paths t = paths_from t.fields (each (row t.kind).columns) 0

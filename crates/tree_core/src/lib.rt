@@ -1,0 +1,17 @@
+//! The tree of a JavaScript program, in ESTree: its nodes, the table of their kinds, the reader and the
+//! printer that go by the table.
+#![tactic(auto)]
+
+mod kind;
+mod node;
+mod rows;
+mod table;
+mod text;
+
+pub use kind::{KINDS, Kind};
+pub use node::{Field, FieldList, Node, NodeList};
+pub use rows::{row, row_named};
+pub use table::{
+    Class, Column, Declared, Group, Mark, Mode, Opens, Role, Row, Strict, Words, word_list,
+};
+pub use text::TreeText;
