@@ -1,14 +1,14 @@
 -- A text and its code units give each other back.
-use Rattle.std.proofs.Common.{◌≡◌, ℕ, suc, ◌<◌, ◌≤◌, ◌+◌, ◌-◌, ◌*◌, ◌/◌, ◌%◌, ◌⊎◌, ⊎_elim, inl, inr, List, [], ◌∷◌, ◌++◌, get_or, Bool, true, false, cond, not, ◌&&◌, ◌||◌, nat_lt, nat_le, Option, Some, None, is_some, map, flat_map, arith, sym, ap, ap₂, ◌∙◌, refl, subst, append_assoc, append-nil, encode_utf8, encode_utf8_all, bytes_eq, IsUtf8, IsAscii, chars, true≢false, if◌then◌else◌, lt-ltb, le-ltb}
+use Rattle.std.proofs.Common.{◌≡◌, ℕ, suc, ◌<◌, ◌≤◌, ◌+◌, ◌-◌, ◌/◌, ◌%◌, ◌⊎◌, ⊎_elim, inl, inr, List, [], ◌∷◌, ◌++◌, get_or, Bool, true, false, not, ◌&&◌, Option, Some, None, is_some, map, flat_map, arith, sym, ap, ap₂, ◌∙◌, refl, subst, encode_utf8, encode_utf8_all, bytes_eq, IsUtf8, IsAscii, chars, true≢false, if◌then◌else◌, lt-ltb, le-ltb}
 use Rattle.std.specs.Char.{IsScalar}
 use Rattle.std.specs.Char.Escape.{encode_utf16}
-use Rattle.std.specs.Char.Utf16.{utf16_chars, has_unpaired_surrogate, is_high_surrogate, is_low_surrogate, lone_unit_char, surrogate_pair_char}
+use Rattle.std.specs.Char.Utf16.{utf16_chars, has_unpaired_surrogate, lone_unit_char, surrogate_pair_char}
 use Rattle.std.specs.List.{list_any}
 use Rattle.std.specs.Str.{all_scalars}
 use Rattle.std.proofs.lemmas.Bool.{cases_lt}
 use Rattle.std.proofs.lemmas.Bool.Decides.{nat_tests}
 use Rattle.std.proofs.lemmas.Slice.Eq.{bytes_eq-Decides}
-use Rattle.std.proofs.lemmas.Str.{IsUtf8-nil, IsUtf8-append, IsUtf8-encode, IsUtf8-from_ascii, chars-encodes, chars-IsAscii, encodes-chars, scalars-chars, utf16_chars-nil, utf16_chars_lone, utf16_chars_pair}
+use Rattle.std.proofs.lemmas.Str.{IsUtf8-from_ascii, chars-encodes, chars-IsAscii, encodes-chars, scalars-chars, utf16_chars-nil, utf16_chars_lone, utf16_chars_pair}
 use Rattle.std.proofs.str.Utf16.{IsPair}
 use lib.Utf8.{scalar_cases}
 use Rattle.json_text.specs.HasText.{AreCodeUnits}
