@@ -58,10 +58,20 @@ are_ordered [] = true
 are_ordered (c ∷ []) = is_first c.class c []
 are_ordered (c ∷ d ∷ cs) = is_first c.class c (d ∷ cs) && (if takes_next c.class then are_ordered cs else are_ordered (d ∷ cs))
 
+-- flags stand right after a pattern
+abbrev pub is_followed : FieldClass → List Column → Bool
+is_followed Pattern [] = false
+is_followed Pattern (d ∷ cs) = is_flags d.class
+is_followed _ cs = true
+
+abbrev pub are_followed : List Column → Bool
+are_followed [] = true
+are_followed (c ∷ cs) = is_followed c.class cs && are_followed cs
+
 abbrev pub is_sound_row : Kind → Bool
 is_sound_row k =
     is_ascii (row k).name && not (is_listed (codes "type") (row k).columns) && not (is_listed (codes "start") (row k).columns)
-    && not (is_listed (codes "end") (row k).columns) && are_ordered (row k).columns
+    && not (is_listed (codes "end") (row k).columns) && are_followed (row k).columns && are_ordered (row k).columns
 
 pub sound_row : (k : Kind) → is_sound_row k ≡ true
 sound_row Program = refl
