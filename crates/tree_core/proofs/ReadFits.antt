@@ -18,8 +18,10 @@ use Rattle.tree_core.specs.declared.table.Class.{Class as FieldClass}
 use Rattle.tree_core.specs.declared.table.Class.TheVariants.{Cooked, Flag, Flags, Holes, LiteralValue, Many, ManyOr, Maybe, Name, One, Pattern, Raw, Text as TextClass, TextOr, Word}
 use Rattle.tree_core.specs.declared.table.Words.{Words}
 use Rattle.tree_core.proofs.Cases.{both, if_some, map_some, none_some, some_same, then_some, bytes_equal}
+use Rattle.tree_core.proofs.Found.{part_found, part_in-part_found}
+use Rattle.tree_core.specs.Kinds.{all_kinds}
 use Rattle.tree_core.proofs.Fits.{FitFields, FitItems, Fits, FitsAtom, FitsHead, FitsNext, FitsPart, TakesList, TakesNode, inner_part}
-use Rattle.tree_core.proofs.RowFacts.{are_followed, are_ordered, ascii_words, is_ascii, is_flags, is_followed, is_sound_row, row_kind, sound_row}
+use Rattle.tree_core.proofs.RowFacts.{are_followed, are_ordered, ascii_words, is_ascii, is_flags, is_followed, row_kind, row_sound}
 
 -- ---- values that are no objects
 
@@ -326,3 +328,123 @@ run_fits part fit together (c ∷ cs) ps f e =
     (λ x same. next_fits part fit together c cs x m.0 (a.1 ∙ ap Some same) m.1 c.class refl b.0)
     (run_fits part fit together cs m.0 b.1 m.1))
 
+-- what a pattern and flags are where the member under `regex` is missing, null or an object
+no_regex : (o : Option Json) → Bool
+no_regex None = true
+no_regex (Some d) = is_null_value d
+
+regex_empty : (k : List ℕ) (d : Json) (p : Parts) → regex_part k d ≡ Some p → is_empty p ≡ is_null_value d
+regex_empty k null p e = sym (ap is_empty (some_same (one empty) p e))
+regex_empty k (object ms) p e =
+    let t = if_some (are_distinct ms && has_only (codes "pattern") (codes "flags") ms) _ p e in
+    let a = map_some (λ x. one (text x)) (option_and_then text_in (find_member k ms)) p t.1 in
+    sym (ap is_empty a.2)
+regex_empty k (truth b) p e = none_some p e
+regex_empty k (number n) p e = none_some p e
+regex_empty k other_number p e = none_some p e
+regex_empty k (string us) p e = none_some p e
+regex_empty k (list ds) p e = none_some p e
+
+pattern_empty : (c : Column) (o : Option Json) (p : Parts) → c.class ≡ Pattern → part_found c o ≡ Some p → is_empty p ≡ no_regex o
+unfolding no_regex
+pattern_empty c None p same e = sym (ap is_empty (some_same (one empty) p (sym (ap absent same) ∙ e)))
+pattern_empty c (Some d) p same e = regex_empty c.key d p (sym (ap (λ x. part_from x c.key d (shape_of d) (list_of d)) same) ∙ e)
+
+flags_empty : (c : Column) (o : Option Json) (p : Parts) → c.class ≡ Flags → part_found c o ≡ Some p → is_empty p ≡ no_regex o
+unfolding no_regex
+flags_empty c None p same e = sym (ap is_empty (some_same (one empty) p (sym (ap absent same) ∙ e)))
+flags_empty c (Some d) p same e = regex_empty c.key d p (sym (ap (λ x. part_from x c.key d (shape_of d) (list_of d)) same) ∙ e)
+
+key_of_class : (c : Column) (class : FieldClass) (k : List ℕ) → holder class ≡ Some k → c.class ≡ class → outer_key c ≡ k
+key_of_class c class k e same = ap (λ x. elim (holder x) [ Some l ↦ l | None ↦ c.key ]) same ∙ ap (λ o. elim o [ Some l ↦ l | None ↦ c.key ]) e
+
+are_together : (ms : Members) → AreTogether (λ c. part_in ms c)
+are_together ms c d p q pattern flags e f =
+    let k = key_of_class c Pattern (codes "regex") refl pattern in
+    let l = key_of_class d Flags (codes "regex") refl flags in
+    let o = find_member (codes "regex") ms in
+    pattern_empty c o p pattern (sym (ap (λ x. part_found c (find_member x ms)) k) ∙ sym (part_in-part_found ms c) ∙ e)
+    ∙ sym (flags_empty d o q flags (sym (ap (λ x. part_found d (find_member x ms)) l) ∙ sym (part_in-part_found ms d) ∙ f))
+
+-- ---- a node
+
+offset_below : (o : Option Json) (n : ℕ) → offset_of o ≡ Some n → n < 2 ^ 32
+offset_below None n e = subst (λ x. x < 2 ^ 32) (some_same 0 n e) (omega arith)
+offset_below (Some d) n e = (below_bound (2 ^ 32) d n e).1
+
+row_found : (ks : List Kind) (name : List ℕ) (r : Row) → row_among ks name ≡ Some r → (k : Kind) × (row k ≡ r)
+row_found [] name r e = none_some r e
+row_found (k ∷ ks) name r e = here (bytes_eq (row k).name name) e (row_found ks name r)
+  where
+    here : (b : Bool) → (if b then Some (row k) else row_among ks name) ≡ Some r → (row_among ks name ≡ Some r → (j : Kind) × (row j ≡ r)) → (j : Kind) × (row j ≡ r)
+    here true f later = (k, some_same (row k) r f)
+    here false f later = later f
+
+-- the row that is found for an object is that of its kind, which is supported
+row_of_object : (ms : Members) (r : Row) → row_for ms ≡ Some r → (is_supported r.kind ≡ true) × (row r.kind ≡ r)
+row_of_object ms r e =
+    let a = then_some supported_row (option_and_then text_in (find_member (codes "type") ms)) r e in
+    let b = then_some (λ s. if is_supported s.kind then Some s else None) (row_named a.0) r a.2 in
+    let t = if_some (is_supported b.0.kind) (Some b.0) r b.2 in
+    let same = some_same b.0 r t.1 in
+    let f = row_found all_kinds a.0 b.0 b.1 in
+    let own : row r.kind ≡ r = ap row (ap (λ s. s.kind) (sym (f.1 ∙ same)) ∙ row_kind f.0) ∙ f.1 ∙ same in
+    (subst (λ s. is_supported s.kind ≡ true) same t.0, own)
+
+node_fits : (ms : Members) (part : Column → Option Parts) (t : Tree) → AllFit part → AreTogether part → shape_from ms part ≡ Some t → Fits t
+node_fits ms part t fit together e =
+    let r = then_some _ (row_for ms) t e in
+    let s = then_some _ (offset_of (find_member (codes "start") ms)) t r.2 in
+    let p = then_some _ (offset_of (find_member (codes "end") ms)) t s.2 in
+    let k = if_some (are_distinct ms && only_known r.0.columns ms && is_paired r.0.kind ms) _ t p.2 in
+    let fs = map_some _ (run_of part r.0.columns) t k.1 in
+    let own = row_of_object ms r.0 r.1 in
+    let fields = run_fits part fit together r.0.columns fs.0 (subst (λ x. are_followed x.columns ≡ true) own.1 (row_sound r.0.kind).followed) fs.1 in
+    subst Fits fs.2
+    ((own.0, offset_below (find_member (codes "start") ms) s.0 s.1, offset_below (find_member (codes "end") ms) p.0 p.1), subst (λ x. FitFields fs.0 x.columns) (sym own.1) fields)
+
+here_or : (b : Bool) (c : Column) (p : Parts) (d : Json) (rest : Option Parts) → (if b then part_from c.class c.key d (shape_of d) (list_of d) else rest) ≡ Some p
+    → ((t : Tree) → shape_of d ≡ Some t → Fits t) → ((holes : Bool) (us : Parts) → list_of d holes ≡ Some us → FitItems us holes) → (rest ≡ Some p → FitsPart c.class p) → FitsPart c.class p
+here_or true c p d rest e node items later = part_fits d (shape_of d) (list_of d) node items c.class c.key p e
+here_or false c p d rest e node items later = later e
+
+or_hole_fits : (holes : Bool) (d : Json) (p more : Parts) → ((t : Tree) → shape_of d ≡ Some t → Fits t) → or_hole holes d (option_map alone (shape_of d)) ≡ Some p → FitItems more holes → FitItems (onto p more) holes
+or_hole_fits holes d p more fit e rest = by_test (holes && is_null_value d) refl e
+  where
+    by_test : (b : Bool) → (holes && is_null_value d) ≡ b → (if b then Some (one empty) else option_map alone (shape_of d)) ≡ Some p → FitItems (onto p more) holes
+    by_test true h f = subst (λ x. FitItems (onto x more) holes) (some_same (one empty) p f) ((both holes (is_null_value d) h).0, refl, rest)
+    by_test false h f =
+        let a = map_some alone (shape_of d) p f in
+        let t = fit a.0 a.1 in
+        subst (λ x. FitItems (onto x more) holes) a.2 (t.0, t.1, rest)
+
+mutual
+  pub shape_fits : (d : Json) (t : Tree) → shape_of d ≡ Some t → Fits t
+  shape_fits null t e = none_some t e
+  shape_fits (truth b) t e = none_some t e
+  shape_fits (number n) t e = none_some t e
+  shape_fits other_number t e = none_some t e
+  shape_fits (string us) t e = none_some t e
+  shape_fits (list ds) t e = none_some t e
+  shape_fits (object ms) t e = node_fits ms (λ c. part_in ms c) t (λ c p h. member_fits ms c p h) (are_together ms) e
+
+  list_fits : (d : Json) (holes : Bool) (ps : Parts) → list_of d holes ≡ Some ps → FitItems ps holes
+  list_fits null holes ps e = none_some ps e
+  list_fits (truth b) holes ps e = none_some ps e
+  list_fits (number n) holes ps e = none_some ps e
+  list_fits other_number holes ps e = none_some ps e
+  list_fits (string us) holes ps e = none_some ps e
+  list_fits (list ds) holes ps e = items_fit ds holes ps e
+  list_fits (object ms) holes ps e = none_some ps e
+
+  items_fit : (ds : Items) (holes : Bool) (ps : Parts) → items_from ds holes ≡ Some ps → FitItems ps holes
+  items_fit no_items holes ps e = subst (λ x. FitItems x holes) (some_same done ps e) tt
+  items_fit (item d ds) holes ps e =
+      let a = then_some (λ p. option_map (onto p) (items_from ds holes)) (or_hole holes d (option_map alone (shape_of d))) ps e in
+      let m = map_some (onto a.0) (items_from ds holes) ps a.2 in
+      subst (λ x. FitItems x holes) m.2 (or_hole_fits holes d a.0 m.0 (λ t h. shape_fits d t h) a.1 (items_fit ds holes m.0 m.1))
+
+  member_fits : (ms : Members) (c : Column) (p : Parts) → part_in ms c ≡ Some p → FitsPart c.class p
+  member_fits no_members c p e = absent_fits c.class p e
+  member_fits (member k d ms) c p e =
+      here_or (bytes_eq k (outer_key c)) c p d (part_in ms c) e (λ t h. shape_fits d t h) (λ holes us h. list_fits d holes us h) (λ h. member_fits ms c p h)

@@ -4,7 +4,8 @@ use Rattle.std.specs.List.{list_all}
 use Rattle.std.proofs.Common.{◌≡◌, refl}
 use Rattle.json_text.specs.Units.{are_code_units}
 use Rattle.tree_core.specs.Reading.{is_listed, outer_key}
-use Rattle.tree_core.specs.Table.{Column, row, row_named, word_list}
+use Rattle.tree_core.specs.Table.{Column, Row, row, row_named, word_list}
+use Rattle.tree_core.proofs.Cases.{both, not_true}
 use Rattle.tree_core.specs.declared.kind.Kind.{Kind}
 use Rattle.tree_core.specs.declared.kind.Kind.TheVariants.{Program, Hashbang, ExpressionStatement, BlockStatement, EmptyStatement, DebuggerStatement, ThisExpression, Super, ReturnStatement, ThrowStatement, LabeledStatement, BreakStatement, ContinueStatement, IfStatement, SwitchStatement, SwitchCase, TryStatement, CatchClause, WhileStatement, DoWhileStatement, ForStatement, ForInStatement, ForOfStatement, WithStatement, VariableDeclaration, VariableDeclarator, FunctionDeclaration, FunctionExpression, ArrowFunctionExpression, ClassDeclaration, ClassExpression, ClassBody, MethodDefinition, PropertyDefinition, StaticBlock, ArrayExpression, ObjectExpression, Property, SpreadElement, RestElement, UnaryExpression, UpdateExpression, BinaryExpression, LogicalExpression, AssignmentExpression, ConditionalExpression, CallExpression, NewExpression, MemberExpression, ChainExpression, SequenceExpression, YieldExpression, AwaitExpression, ImportExpression, MetaProperty, TemplateLiteral, TaggedTemplateExpression, TemplateElement, ObjectPattern, ArrayPattern, AssignmentPattern, Identifier, PrivateIdentifier, Literal, ImportDeclaration, ImportSpecifier, ImportDefaultSpecifier, ImportNamespaceSpecifier, ImportAttribute, ExportNamedDeclaration, ExportSpecifier, ExportDefaultDeclaration, ExportAllDeclaration}
 use Rattle.tree_core.specs.declared.table.Class.{Class as FieldClass}
@@ -68,12 +69,12 @@ abbrev pub are_followed : List Column → Bool
 are_followed [] = true
 are_followed (c ∷ cs) = is_followed c.class cs && are_followed cs
 
-abbrev pub is_sound_row : Kind → Bool
-is_sound_row k =
-    is_ascii (row k).name && not (is_listed (codes "type") (row k).columns) && not (is_listed (codes "start") (row k).columns)
-    && not (is_listed (codes "end") (row k).columns) && are_followed (row k).columns && are_ordered (row k).columns
+abbrev pub is_sound_row : Row → Bool
+is_sound_row r =
+    is_ascii r.name && (not (is_listed (codes "type") r.columns) && (not (is_listed (codes "start") r.columns)
+    && (not (is_listed (codes "end") r.columns) && (are_followed r.columns && are_ordered r.columns))))
 
-pub sound_row : (k : Kind) → is_sound_row k ≡ true
+sound_row : (k : Kind) → is_sound_row (row k) ≡ true
 sound_row Program = refl
 sound_row Hashbang = refl
 sound_row ExpressionStatement = refl
@@ -147,6 +148,24 @@ sound_row ExportNamedDeclaration = refl
 sound_row ExportSpecifier = refl
 sound_row ExportDefaultDeclaration = refl
 sound_row ExportAllDeclaration = refl
+
+pub record IsSoundRow (r : Row) : Type 0 where
+  pub ascii : is_ascii r.name ≡ true
+  pub typed : is_listed (codes "type") r.columns ≡ false
+  pub starts : is_listed (codes "start") r.columns ≡ false
+  pub ends : is_listed (codes "end") r.columns ≡ false
+  pub followed : are_followed r.columns ≡ true
+  pub ordered : are_ordered r.columns ≡ true
+
+pub row_sound : (k : Kind) → IsSoundRow (row k)
+row_sound k =
+    let r = row k in
+    let a = both (is_ascii r.name) _ (sound_row k) in
+    let b = both (not (is_listed (codes "type") r.columns)) _ a.1 in
+    let c = both (not (is_listed (codes "start") r.columns)) _ b.1 in
+    let d = both (not (is_listed (codes "end") r.columns)) _ c.1 in
+    let e = both (are_followed r.columns) _ d.1 in
+    record { ascii = a.0; typed = not_true _ b.0; starts = not_true _ c.0; ends = not_true _ d.0; followed = e.0; ordered = e.1 }
 
 pub row_kind : (k : Kind) → (row k).kind ≡ k
 row_kind Program = refl
