@@ -35,14 +35,14 @@ is_inner c k = bytes_eq c.key k && not c.omit
 
 -- a field of the node's object, whose key no other of these has
 abbrev pub is_outer : Column → List Column → Bool
-is_outer c cs = not (is_listed c.key cs) && (not c.omit || is_omittable c.class) && are_code_units c.key
+is_outer c cs = not (is_listed c.key cs) && ((not c.omit || is_omittable c.class) && are_code_units c.key)
 
 -- of a class, the first column before the others: `pattern` stands before `flags`, and `raw` before `cooked`
 abbrev pub is_first : FieldClass → Column → List Column → Bool
 is_first Pattern c [] = false
-is_first Pattern c (d ∷ cs) = is_inner c (codes "pattern") && is_flags d.class && is_inner d (codes "flags") && not (is_listed (codes "regex") cs)
+is_first Pattern c (d ∷ cs) = is_inner c (codes "pattern") && (is_flags d.class && (is_inner d (codes "flags") && not (is_listed (codes "regex") cs)))
 is_first Raw c [] = false
-is_first Raw c (d ∷ cs) = is_inner c (codes "raw") && is_cooked d.class && is_inner d (codes "cooked") && not (is_listed (codes "value") cs)
+is_first Raw c (d ∷ cs) = is_inner c (codes "raw") && (is_cooked d.class && (is_inner d (codes "cooked") && not (is_listed (codes "value") cs)))
 is_first Flags c cs = false
 is_first Cooked c cs = false
 is_first _ c cs = is_outer c cs
