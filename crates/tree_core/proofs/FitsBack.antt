@@ -180,3 +180,183 @@ plain_atom c cs a more own outer fit l = by_test (c.omit && is_null_atom a) refl
         one_more c cs (one a) more (atom a more) (Some v) own outer ((plain_class c.class own).reads c.key v (shape_of v) (list_of v) ∙ fit.0 (shape_of v) (list_of v)) fit.1
         refl (sym (prints false e)) l
 
+-- ---- two fields in one object
+
+-- what the table says of two columns whose fields lie in the object under `outer`
+record ArePaired (c d : Column) (cs : List Column) (outer first second : List ℕ) : Type 0 where
+  first_key : c.key ≡ first
+  second_key : d.key ≡ second
+  kept : d.omit ≡ false
+  unlisted : is_listed outer cs ≡ false
+  rest : are_ordered cs ≡ true
+
+paired_from : (c d : Column) (cs : List Column) (outer first second : List ℕ) (b : Bool) → (is_inner c first && (b && (is_inner d second && not (is_listed outer cs)))) ≡ true → are_ordered cs ≡ true
+    → (b ≡ true) × ArePaired c d cs outer first second
+paired_from c d cs outer first second b e o =
+    let f = both (is_inner c first) _ e in
+    let g = both b _ f.1 in
+    let h = both (is_inner d second) _ g.1 in
+    let i = both (bytes_eq c.key first) _ f.0 in
+    let j = both (bytes_eq d.key second) _ h.0 in
+    (g.0, record {
+      first_key = bytes_equal c.key first i.0;
+      second_key = bytes_equal d.key second j.0;
+      kept = not_true _ j.1;
+      unlisted = not_true _ h.1;
+      rest = o;
+    })
+
+is_flags-Flags : (class : FieldClass) → is_flags class ≡ true → class ≡ Flags
+is_flags-Flags Flags e = refl
+is_flags-Flags _ e = absurd (true≢false (sym e))
+
+is_cooked-Cooked : (class : FieldClass) → is_cooked class ≡ true → class ≡ Cooked
+is_cooked-Cooked Cooked e = refl
+is_cooked-Cooked _ e = absurd (true≢false (sym e))
+
+-- after a class that takes the next column, the others are in order
+rest_ordered : (c d : Column) (cs : List Column) → takes_next c.class ≡ true → are_ordered (c ∷ d ∷ cs) ≡ true → are_ordered cs ≡ true
+rest_ordered c d cs t o = sym (ap (λ x. if x then are_ordered cs else are_ordered (d ∷ cs)) t) ∙ (both (is_first c.class c (d ∷ cs)) _ o).1
+
+pattern_ordered : (c d : Column) (cs : List Column) → c.class ≡ Pattern → are_ordered (c ∷ d ∷ cs) ≡ true → (d.class ≡ Flags) × ArePaired c d cs (codes "regex") (codes "pattern") (codes "flags")
+pattern_ordered c d cs same o =
+    let e = sym (ap (λ x. is_first x c (d ∷ cs)) same) ∙ (both (is_first c.class c (d ∷ cs)) _ o).0 in
+    let p = paired_from c d cs (codes "regex") (codes "pattern") (codes "flags") (is_flags d.class) e (rest_ordered c d cs (ap takes_next same) o) in
+    (is_flags-Flags d.class p.0, p.1)
+
+raw_ordered : (c d : Column) (cs : List Column) → c.class ≡ Raw → are_ordered (c ∷ d ∷ cs) ≡ true → (d.class ≡ Cooked) × ArePaired c d cs (codes "value") (codes "raw") (codes "cooked")
+raw_ordered c d cs same o =
+    let e = sym (ap (λ x. is_first x c (d ∷ cs)) same) ∙ (both (is_first c.class c (d ∷ cs)) _ o).0 in
+    let p = paired_from c d cs (codes "value") (codes "raw") (codes "cooked") (is_cooked d.class) e (rest_ordered c d cs (ap takes_next same) o) in
+    (is_cooked-Cooked d.class p.0, p.1)
+
+-- an object with two members
+abbrev pair_object : List ℕ → Json → List ℕ → Json → Json
+pair_object k v l w = object (member k v (member l w no_members))
+
+-- what the second of two fields prints
+prints_second : (d : Column) (class : FieldClass) (b : Atom) (l : List ℕ) (more : Members) → d.class ≡ class
+    → ((x : Column) → put_at class x b more ≡ (if x.omit && is_null_atom b then more else member x.key (atom_value x.class b) more)) → d.omit ≡ false → d.key ≡ l
+    → put_member d b more ≡ member l (atom_value class b) more
+prints_second d class b l more same prints kept key =
+    ap (λ x. put_at x d b more) same ∙ prints d ∙ ap (λ x. if x && is_null_atom b then more else member d.key (atom_value d.class b) more) kept
+    ∙ ap (λ x. member x (atom_value d.class b) more) key ∙ ap (λ x. member l (atom_value x b) more) same
+
+is_empty-atom : (a : Atom) (more : Parts) → is_empty (atom a more) ≡ is_null_atom a
+is_empty-atom empty more = refl
+is_empty-atom (flag b) more = refl
+is_empty-atom (word n) more = refl
+is_empty-atom (text x) more = refl
+is_empty-atom (units us) more = refl
+is_empty-atom (whole n) more = refl
+
+value_not_null : (class : FieldClass) (a : Atom) → is_null_atom a ≡ false → is_null_value (atom_value class a) ≡ false
+value_not_null class empty e = absurd (true≢false e)
+value_not_null class (flag b) e = refl
+value_not_null class (word n) e = refl
+value_not_null class (text x) e = refl
+value_not_null class (units us) e = refl
+value_not_null class (whole n) e = refl
+
+or_null_other : (d : Json) (o : Option Parts) → is_null_value d ≡ false → or_null d o ≡ o
+or_null_other d o e = rw e refl
+
+found_at : (c : Column) (class : FieldClass) (k : List ℕ) (d : Json) → c.class ≡ class → c.key ≡ k → part_found c (Some d) ≡ part_from class k d (shape_of d) (list_of d)
+found_at c class k d same key = ap (λ x. part_from x c.key d (shape_of d) (list_of d)) same ∙ ap (λ x. part_from class x d (shape_of d) (list_of d)) key
+
+key_of_class : (c : Column) (class : FieldClass) (k : List ℕ) → holder class ≡ Some k → c.class ≡ class → outer_key c ≡ k
+key_of_class c class k e same = ap (λ x. elim (holder x) [ Some l ↦ l | None ↦ c.key ]) same ∙ ap (λ o. elim o [ Some l ↦ l | None ↦ c.key ]) e
+
+ascii_key : (k : List ℕ) → are_code_units k ≡ true → AreCodeUnits k
+ascii_key k e = AreCodeUnits-are_code_units k e
+
+-- a pattern and flags, or none
+regex_fields : (c d : Column) (cs : List Column) (a b : Atom) (more : Parts) → c.class ≡ Pattern → d.class ≡ Flags → ArePaired c d cs (codes "regex") (codes "pattern") (codes "flags")
+    → FitsAtom Pattern a → FitsAtom Flags b → is_null_atom a ≡ is_null_atom b → Listed more cs → Listed (atom a (atom b more)) (c ∷ d ∷ cs)
+regex_fields c d cs a b more same_c same_d p fit_a fit_b together l = by_test (is_null_atom a) refl
+  where
+    prints : (n : Bool) → is_null_atom a ≡ n → fields_value (atom a (atom b more)) (c ∷ d ∷ cs)
+        ≡ (if n then fields_value more cs else member (codes "regex") (pair_object (codes "pattern") (atom_value Pattern a) (codes "flags") (atom_value Flags b)) (fields_value more cs))
+    prints n e =
+        let rest = fields_value more cs in
+        let w = atom_value Flags b in
+        ap (put_member c a) (prints_second d Flags b (codes "flags") rest same_d (λ x. refl) p.kept p.second_key)
+        ∙ ap (λ x. put_at x c a (member (codes "flags") w rest)) same_c
+        ∙ ap (λ x. if x then rest else member (codes "regex") (pair_object c.key (atom_value c.class a) (codes "flags") w) rest) e
+        ∙ ap (λ k. if n then rest else member (codes "regex") (pair_object k (atom_value c.class a) (codes "flags") w) rest) p.first_key
+        ∙ ap (λ x. if n then rest else member (codes "regex") (pair_object (codes "pattern") (atom_value x a) (codes "flags") w) rest) same_c
+
+    by_test : (n : Bool) → is_null_atom a ≡ n → Listed (atom a (atom b more)) (c ∷ d ∷ cs)
+    by_test true e =
+        let none_a = ap (λ x. Some (one x)) (sym (null_atom a e)) in
+        let none_b = ap (λ x. Some (one x)) (sym (null_atom b (sym together ∙ e))) in
+        two_more c d cs (one a) (one b) more (atom a (atom b more)) (codes "regex") None (key_of_class c Pattern (codes "regex") refl same_c) (key_of_class d Flags (codes "regex") refl same_d)
+        p.unlisted (ascii_key (codes "regex") refl) (ap absent same_c ∙ none_a) (ap absent same_d ∙ none_b) tt refl (sym (prints true e)) l
+    by_test false e =
+        let v = atom_value Pattern a in
+        let w = atom_value Flags b in
+        let o = pair_object (codes "pattern") v (codes "flags") w in
+        let some_a = sym (or_null_other v (option_map (λ x. one (text x)) (text_in v)) (value_not_null Pattern a e)) ∙ fit_a.0 None (λ h. None) in
+        let some_b = sym (or_null_other w (option_map (λ x. one (text x)) (text_in w)) (value_not_null Flags b (sym together ∙ e))) ∙ fit_b.0 None (λ h. None) in
+        two_more c d cs (one a) (one b) more (atom a (atom b more)) (codes "regex") (Some o) (key_of_class c Pattern (codes "regex") refl same_c) (key_of_class d Flags (codes "regex") refl same_d)
+        p.unlisted (ascii_key (codes "regex") refl) (found_at c Pattern (codes "pattern") o same_c p.first_key ∙ some_a) (found_at d Flags (codes "flags") o same_d p.second_key ∙ some_b)
+        (ascii_key (codes "pattern") refl, fit_a.1, (ascii_key (codes "flags") refl, fit_b.1, tt)) refl (sym (prints false e)) l
+
+-- raw and cooked
+template_fields : (c d : Column) (cs : List Column) (a b : Atom) (more : Parts) → c.class ≡ Raw → d.class ≡ Cooked → ArePaired c d cs (codes "value") (codes "raw") (codes "cooked")
+    → FitsAtom Raw a → FitsAtom Cooked b → Listed more cs → Listed (atom a (atom b more)) (c ∷ d ∷ cs)
+template_fields c d cs a b more same_c same_d p fit_a fit_b l =
+    let v = atom_value Raw a in
+    let w = atom_value Cooked b in
+    let o = pair_object (codes "raw") v (codes "cooked") w in
+    let rest = fields_value more cs in
+    let prints : fields_value (atom a (atom b more)) (c ∷ d ∷ cs) ≡ member (codes "value") o rest =
+    ap (put_member c a) (prints_second d Cooked b (codes "cooked") rest same_d (λ x. refl) p.kept p.second_key)
+    ∙ ap (λ x. put_at x c a (member (codes "cooked") w rest)) same_c
+    ∙ ap (λ k. member (codes "value") (pair_object k (atom_value c.class a) (codes "cooked") w) rest) p.first_key
+    ∙ ap (λ x. member (codes "value") (pair_object (codes "raw") (atom_value x a) (codes "cooked") w) rest) same_c in
+    two_more c d cs (one a) (one b) more (atom a (atom b more)) (codes "value") (Some o) (key_of_class c Raw (codes "value") refl same_c) (key_of_class d Cooked (codes "value") refl same_d)
+    p.unlisted (ascii_key (codes "value") refl) (found_at c Raw (codes "raw") o same_c p.first_key ∙ fit_a.0 None (λ h. None)) (found_at d Cooked (codes "cooked") o same_d p.second_key ∙ fit_b.0 None (λ h. None))
+    (ascii_key (codes "raw") refl, fit_a.1, (ascii_key (codes "cooked") refl, fit_b.1, tt)) refl (sym prints) l
+
+-- the fields after the next one
+abbrev Tail : Parts → List Column → Type 0
+Tail (atom b more) (d ∷ cs) = are_ordered cs ≡ true → Listed more cs
+Tail _ _ = Unit {0}
+
+never_takes : {A : Type 0} (class : FieldClass) (k : List ℕ) → holder class ≡ Some k → (o : FieldClass) → o ≡ class → holder o ≡ None → A
+never_takes class k h o same n = none_some k (sym n ∙ ap holder same ∙ h)
+
+regex_listed : (c : Column) (cs : List Column) (a : Atom) (more : Parts) → c.class ≡ Pattern → are_ordered (c ∷ cs) ≡ true → FitsAtom c.class a → FitsNext c.class a more → FitFields more cs → Tail more cs
+    → Listed (atom a more) (c ∷ cs)
+regex_listed c [] a more same o f n fs t = absurd (true≢false (sym (sym (ap (λ x. is_first x c []) same) ∙ o)))
+regex_listed c (d ∷ cs) a done same o f n fs t = absurd fs
+regex_listed c (d ∷ cs) a (child k s e fields more) same o f n fs t = never_takes Flags (codes "regex") refl d.class (pattern_ordered c d cs same o).0 fs.0.0
+regex_listed c (d ∷ cs) a (many items more) same o f n fs t = never_takes Flags (codes "regex") refl d.class (pattern_ordered c d cs same o).0 fs.1.0
+regex_listed c (d ∷ cs) a (atom b more) same o f n fs t =
+    let p = pattern_ordered c d cs same o in
+    let next : is_null_atom a ≡ is_empty (atom b more) = subst (λ x. FitsNext x a (atom b more)) same n in
+    regex_fields c d cs a b more same p.0 p.1 (subst (λ x. FitsAtom x a) same f) (subst (λ x. FitsAtom x b) p.0 fs.0) (next ∙ is_empty-atom b more) (t p.1.rest)
+
+template_listed : (c : Column) (cs : List Column) (a : Atom) (more : Parts) → c.class ≡ Raw → are_ordered (c ∷ cs) ≡ true → FitsAtom c.class a → FitFields more cs → Tail more cs
+    → Listed (atom a more) (c ∷ cs)
+template_listed c [] a more same o f fs t = absurd (true≢false (sym (sym (ap (λ x. is_first x c []) same) ∙ o)))
+template_listed c (d ∷ cs) a done same o f fs t = absurd fs
+template_listed c (d ∷ cs) a (child k s e fields more) same o f fs t = never_takes Cooked (codes "value") refl d.class (raw_ordered c d cs same o).0 fs.0.0
+template_listed c (d ∷ cs) a (many items more) same o f fs t = never_takes Cooked (codes "value") refl d.class (raw_ordered c d cs same o).0 fs.1.0
+template_listed c (d ∷ cs) a (atom b more) same o f fs t =
+    let p = raw_ordered c d cs same o in
+    template_fields c d cs a b more same p.0 p.1 (subst (λ x. FitsAtom x a) same f) (subst (λ x. FitsAtom x b) p.0 fs.0) (t p.1.rest)
+
+never_first : {A : Type 0} (c : Column) (cs : List Column) (class : FieldClass) → ((ds : List Column) → is_first class c ds ≡ false) → c.class ≡ class → are_ordered (c ∷ cs) ≡ true → A
+never_first c [] class h same o = absurd (true≢false (sym (sym (h []) ∙ sym (ap (λ x. is_first x c []) same) ∙ o)))
+never_first c (d ∷ cs) class h same o = absurd (true≢false (sym (sym (h (d ∷ cs)) ∙ sym (ap (λ x. is_first x c (d ∷ cs)) same) ∙ (both (is_first c.class c (d ∷ cs)) _ o).0)))
+
+atom_listed : (c : Column) (cs : List Column) (a : Atom) (more : Parts) → Sort c.class → are_ordered (c ∷ cs) ≡ true → FitsAtom c.class a → FitsNext c.class a more → FitFields more cs
+    → (are_ordered cs ≡ true → Listed more cs) → Tail more cs → Listed (atom a more) (c ∷ cs)
+atom_listed c cs a more (of_pattern e) o f n fs r t = regex_listed c cs a more e o f n fs t
+atom_listed c cs a more (of_flags e) o f n fs r t = never_first c cs Flags (λ ds. refl) e o
+atom_listed c cs a more (of_raw e) o f n fs r t = template_listed c cs a more e o f fs t
+atom_listed c cs a more (of_cooked e) o f n fs r t = never_first c cs Cooked (λ ds. refl) e o
+atom_listed c cs a more (of_plain h) o f n fs r t = let outer = plain_ordered c cs h o in plain_atom c cs a more h outer f (r outer.rest)
+
