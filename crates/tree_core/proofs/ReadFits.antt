@@ -17,11 +17,12 @@ use Rattle.tree_core.specs.declared.kind.Kind.{Kind}
 use Rattle.tree_core.specs.declared.table.Class.{Class as FieldClass}
 use Rattle.tree_core.specs.declared.table.Class.TheVariants.{Cooked, Flag, Flags, Holes, LiteralValue, Many, ManyOr, Maybe, Name, One, Pattern, Raw, Text as TextClass, TextOr, Word}
 use Rattle.tree_core.specs.declared.table.Words.{Words}
+use Rattle.tree_core.proofs.Ascii.{is_ascii, text_of_ascii}
 use Rattle.tree_core.proofs.Cases.{both, if_some, map_some, none_some, some_same, then_some, bytes_equal}
 use Rattle.tree_core.proofs.Found.{part_found, part_in-part_found}
 use Rattle.tree_core.specs.Kinds.{all_kinds}
 use Rattle.tree_core.proofs.Fits.{FitFields, FitItems, Fits, FitsAtom, FitsHead, FitsNext, FitsPart, TakesList, TakesNode, inner_part}
-use Rattle.tree_core.proofs.RowFacts.{are_followed, are_ordered, ascii_words, is_ascii, is_flags, is_followed, row_kind, row_sound}
+use Rattle.tree_core.proofs.RowFacts.{are_followed, are_ordered, ascii_words, is_flags, is_followed, row_kind, row_sound}
 
 -- ---- values that are no objects
 
@@ -72,17 +73,6 @@ units_again : (us : List ℕ) → AreCodeUnits us → units_in (string us) ≡ S
 units_again us a = rw (are_code_units-AreCodeUnits us a) refl
 
 -- ---- words
-
-ascii_text : (bytes : List ℕ) → is_ascii bytes ≡ true → IsAscii bytes
-ascii_text [] e i = omega arith
-ascii_text (b ∷ bs) e zero = ltb-true b 128 (both (nat_lt b 128) (is_ascii bs) e).0
-ascii_text (b ∷ bs) e (suc i) = ascii_text bs (both (nat_lt b 128) (is_ascii bs) e).1 i
-
--- an ASCII text is the text of itself as code units
-pub text_of_ascii : (bytes : List ℕ) → is_ascii bytes ≡ true → text_of_units bytes ≡ Some bytes
-text_of_ascii bytes e =
-    let a = ascii_text bytes e in
-    sym (ap text_of_units (units_of-IsAscii bytes a)) ∙ text_of_units-units_of bytes (IsUtf8-from_ascii bytes a)
 
 -- the j-th word, of ASCII
 abbrev IsWordAt : List (List ℕ) → List ℕ → ℕ → Type 0

@@ -5,6 +5,7 @@ use Rattle.std.proofs.Common.{◌≡◌, refl}
 use Rattle.json_text.specs.Units.{are_code_units}
 use Rattle.tree_core.specs.Reading.{is_listed, outer_key}
 use Rattle.tree_core.specs.Table.{Column, Row, row, row_named, word_list}
+use Rattle.tree_core.proofs.Ascii.{is_ascii}
 use Rattle.tree_core.proofs.Cases.{both, not_true}
 use Rattle.tree_core.specs.declared.kind.Kind.{Kind}
 use Rattle.tree_core.specs.declared.kind.Kind.TheVariants.{Program, Hashbang, ExpressionStatement, BlockStatement, EmptyStatement, DebuggerStatement, ThisExpression, Super, ReturnStatement, ThrowStatement, LabeledStatement, BreakStatement, ContinueStatement, IfStatement, SwitchStatement, SwitchCase, TryStatement, CatchClause, WhileStatement, DoWhileStatement, ForStatement, ForInStatement, ForOfStatement, WithStatement, VariableDeclaration, VariableDeclarator, FunctionDeclaration, FunctionExpression, ArrowFunctionExpression, ClassDeclaration, ClassExpression, ClassBody, MethodDefinition, PropertyDefinition, StaticBlock, ArrayExpression, ObjectExpression, Property, SpreadElement, RestElement, UnaryExpression, UpdateExpression, BinaryExpression, LogicalExpression, AssignmentExpression, ConditionalExpression, CallExpression, NewExpression, MemberExpression, ChainExpression, SequenceExpression, YieldExpression, AwaitExpression, ImportExpression, MetaProperty, TemplateLiteral, TaggedTemplateExpression, TemplateElement, ObjectPattern, ArrayPattern, AssignmentPattern, Identifier, PrivateIdentifier, Literal, ImportDeclaration, ImportSpecifier, ImportDefaultSpecifier, ImportNamespaceSpecifier, ImportAttribute, ExportNamedDeclaration, ExportSpecifier, ExportDefaultDeclaration, ExportAllDeclaration}
@@ -12,9 +13,6 @@ use Rattle.tree_core.specs.declared.table.Class.{Class as FieldClass}
 use Rattle.tree_core.specs.declared.table.Class.TheVariants.{Cooked, Flags, Pattern, Raw, TextOr}
 use Rattle.tree_core.specs.declared.table.Words.{Words}
 use Rattle.tree_core.specs.declared.table.Words.TheVariants.{SourceTypes, VariableKinds, MethodKinds, PropertyKinds, UnaryOperators, UpdateOperators, BinaryOperators, LogicalOperators, AssignmentOperators}
-
-abbrev pub is_ascii : List ℕ → Bool
-is_ascii bytes = list_all (λ c. nat_lt c 128) bytes
 
 -- a class that may be left out in printing
 abbrev pub is_omittable : FieldClass → Bool
