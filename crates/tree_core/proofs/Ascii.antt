@@ -19,4 +19,3 @@ pub text_of_ascii : (bytes : List ℕ) → is_ascii bytes ≡ true → text_of_u
 text_of_ascii bytes e =
     let a = ascii_text bytes e in
     sym (ap text_of_units (units_of-IsAscii bytes a)) ∙ text_of_units-units_of bytes (IsUtf8-from_ascii bytes a)
-

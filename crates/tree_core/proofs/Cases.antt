@@ -25,15 +25,18 @@ some_same a b e = cc
 pub none_some : {A C : Type 0} (a : A) → None ≡ Some a → C
 none_some a e = absurd (cc)
 
-pub map_some : {A B : Type 0} (f : A → B) (o : Option A) (b : B) → option_map f o ≡ Some b → (a : A) × (o ≡ Some a) × (f a ≡ b)
+pub map_some : {A B : Type 0} (f : A → B) (o : Option A) (b : B) → option_map f o ≡ Some b
+    → (a : A) × (o ≡ Some a) × (f a ≡ b)
 map_some f None b e = absurd (cc)
 map_some f (Some a) b e = (a, refl, cc)
 
-pub then_some : {A B : Type 0} (f : A → Option B) (o : Option A) (b : B) → option_and_then f o ≡ Some b → (a : A) × (o ≡ Some a) × (f a ≡ Some b)
+pub then_some : {A B : Type 0} (f : A → Option B) (o : Option A) (b : B) → option_and_then f o ≡ Some b
+    → (a : A) × (o ≡ Some a) × (f a ≡ Some b)
 then_some f None b e = absurd (cc)
 then_some f (Some a) b e = (a, refl, e)
 
-pub if_some : {A : Type 0} (b : Bool) (x : Option A) (y : A) → (if b then x else None) ≡ Some y → (b ≡ true) × (x ≡ Some y)
+pub if_some : {A : Type 0} (b : Bool) (x : Option A) (y : A) → (if b then x else None) ≡ Some y
+    → (b ≡ true) × (x ≡ Some y)
 if_some true x y e = (refl, e)
 if_some false x y e = absurd (cc)
 

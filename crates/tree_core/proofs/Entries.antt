@@ -72,7 +72,8 @@ onto_assoc (atom a more) q r = ap (atom a) (onto_assoc more q r)
 onto_assoc (child k s e fields more) q r = ap (child k s e fields) (onto_assoc more q r)
 onto_assoc (many items more) q r = ap (many items) (onto_assoc more q r)
 
-run_of-append : (part : Column → Option Parts) (xs ys : List Column) (p q : Parts) → run_of part xs ≡ Some p → run_of part ys ≡ Some q → run_of part (xs ++ ys) ≡ Some (onto p q)
+run_of-append : (part : Column → Option Parts) (xs ys : List Column) (p q : Parts) → run_of part xs ≡ Some p
+    → run_of part ys ≡ Some q → run_of part (xs ++ ys) ≡ Some (onto p q)
 run_of-append part [] ys p q e f = f ∙ ap (λ x. Some (onto x q)) (some_same done p e)
 run_of-append part (x ∷ xs) ys p q e f =
     let a = then_some (λ y. option_map (onto y) (run_of part xs)) (part x) p e in
@@ -87,7 +88,8 @@ or_assoc false b c = refl
 
 is_listed-append : (k : List ℕ) (xs ys : List Column) → is_listed k (xs ++ ys) ≡ (is_listed k xs || is_listed k ys)
 is_listed-append k [] ys = refl
-is_listed-append k (x ∷ xs) ys = ap (λ b. bytes_eq (outer_key x) k || b) (is_listed-append k xs ys) ∙ or_assoc (bytes_eq (outer_key x) k) (is_listed k xs) (is_listed k ys)
+is_listed-append k (x ∷ xs) ys = ap (λ b. bytes_eq (outer_key x) k || b) (is_listed-append k xs ys)
+    ∙ or_assoc (bytes_eq (outer_key x) k) (is_listed k xs) (is_listed k ys)
 
 listed_first : (k : List ℕ) (xs ys : List Column) → is_listed k xs ≡ true → is_listed k (xs ++ ys) ≡ true
 listed_first k xs ys e = is_listed-append k xs ys ∙ ap (λ b. b || is_listed k ys) e
@@ -98,18 +100,22 @@ listed_later k xs ys e = is_listed-append k xs ys ∙ ap (λ b. is_listed k xs |
 -- ---- one key
 
 -- a listed key is none that isn't listed
-pub listed_apart : (k l : List ℕ) (cs : List Column) → is_listed k cs ≡ true → is_listed l cs ≡ false → bytes_eq k l ≡ false
+pub listed_apart : (k l : List ℕ) (cs : List Column) → is_listed k cs ≡ true → is_listed l cs ≡ false
+    → bytes_eq k l ≡ false
 listed_apart k l cs here away = bytes_differ k l (λ same. true≢false (sym here ∙ ap (λ x. is_listed x cs) same ∙ away))
 
-find_put : (k : List ℕ) (o : Option Json) (more : Members) → find_member k more ≡ None → find_member k (put k o more) ≡ o
+find_put : (k : List ℕ) (o : Option Json) (more : Members) → find_member k more ≡ None
+    → find_member k (put k o more) ≡ o
 find_put k None more e = e
 find_put k (Some d) more e = rw (bytes_same k) refl
 
-find_past : (k l : List ℕ) (o : Option Json) (more : Members) → bytes_eq l k ≡ false → find_member k (put l o more) ≡ find_member k more
+find_past : (k l : List ℕ) (o : Option Json) (more : Members) → bytes_eq l k ≡ false
+    → find_member k (put l o more) ≡ find_member k more
 find_past k l None more e = refl
 find_past k l (Some d) more e = rw e refl
 
-cells_read : (k : List ℕ) (o : Option Json) (cs : List Cell) (ms : Members) → AreRead k o cs → find_member k ms ≡ o → run_of (λ c. part_in ms c) (columns_of cs) ≡ Some (parts_of cs)
+cells_read : (k : List ℕ) (o : Option Json) (cs : List Cell) (ms : Members) → AreRead k o cs → find_member k ms ≡ o
+    → run_of (λ c. part_in ms c) (columns_of cs) ≡ Some (parts_of cs)
 cells_read k o [] ms r e = refl
 cells_read k o (c ∷ cs) ms r e =
     let here : part_in ms c.column ≡ Some c.part = part_in-part_found ms c.column ∙ ap (λ x. part_found c.column (find_member x ms)) r.0 ∙ ap (part_found c.column) e ∙ r.1 in
@@ -117,25 +123,30 @@ cells_read k o (c ∷ cs) ms r e =
 
 -- ---- all keys
 
-pub not_found : (k : List ℕ) (es : List Entry) → AreEntries es → is_listed k (all_columns es) ≡ false → find_member k (all_members es) ≡ None
+pub not_found : (k : List ℕ) (es : List Entry) → AreEntries es → is_listed k (all_columns es) ≡ false
+    → find_member k (all_members es) ≡ None
 not_found k [] a h = refl
 not_found k (e ∷ es) a h =
     let n = neither (is_listed k (columns_of e.cells)) (is_listed k (all_columns es)) (sym (is_listed-append k (columns_of e.cells) (all_columns es)) ∙ h) in
-    find_past k e.key e.value (all_members es) (listed_apart e.key k (columns_of e.cells) a.0.listed n.0) ∙ not_found k es a.2 n.1
+    find_past k e.key e.value (all_members es) (listed_apart e.key k (columns_of e.cells) a.0.listed n.0)
+    ∙ not_found k es a.2 n.1
 
 -- the fields are read from an object that has these members under their keys
-pub entries_read : (es : List Entry) (ms : Members) → AreEntries es → ((k : List ℕ) → is_listed k (all_columns es) ≡ true → find_member k ms ≡ find_member k (all_members es))
+pub entries_read : (es : List Entry) (ms : Members) → AreEntries es
+    → ((k : List ℕ) → is_listed k (all_columns es) ≡ true → find_member k ms ≡ find_member k (all_members es))
     → run_of (λ c. part_in ms c) (all_columns es) ≡ Some (all_parts es)
 entries_read [] ms a h = refl
 entries_read (e ∷ es) ms a h =
     let found : find_member e.key ms ≡ e.value =
-    h e.key (listed_first e.key (columns_of e.cells) (all_columns es) a.0.listed) ∙ find_put e.key e.value (all_members es) (not_found e.key es a.2 a.1) in
+    h e.key (listed_first e.key (columns_of e.cells) (all_columns es) a.0.listed)
+    ∙ find_put e.key e.value (all_members es) (not_found e.key es a.2 a.1) in
     let later : (k : List ℕ) → is_listed k (all_columns es) ≡ true → find_member k ms ≡ find_member k (all_members es) =
     λ k l. h k (listed_later k (columns_of e.cells) (all_columns es) l)
     ∙ find_past k e.key e.value (all_members es) (bytes_turned k e.key (listed_apart k e.key (all_columns es) l a.1)) in
     run_of-append (λ c. part_in ms c) (columns_of e.cells) (all_columns es) (parts_of e.cells) (all_parts es) (cells_read e.key e.value e.cells ms a.0.read found) (entries_read es ms a.2 later)
 
-put_distinct : (k : List ℕ) (o : Option Json) (more : Members) → find_member k more ≡ None → are_distinct more ≡ true → are_distinct (put k o more) ≡ true
+put_distinct : (k : List ℕ) (o : Option Json) (more : Members) → find_member k more ≡ None → are_distinct more ≡ true
+    → are_distinct (put k o more) ≡ true
 put_distinct k None more n d = d
 put_distinct k (Some v) more n d = rw n d
 
@@ -143,17 +154,21 @@ pub entries_distinct : (es : List Entry) → AreEntries es → are_distinct (all
 entries_distinct [] a = refl
 entries_distinct (e ∷ es) a = put_distinct e.key e.value (all_members es) (not_found e.key es a.2 a.1) (entries_distinct es a.2)
 
-put_known : (cs : List Column) (k : List ℕ) (o : Option Json) (more : Members) → is_listed k cs ≡ true → only_known cs more ≡ true → only_known cs (put k o more) ≡ true
+put_known : (cs : List Column) (k : List ℕ) (o : Option Json) (more : Members) → is_listed k cs ≡ true
+    → only_known cs more ≡ true → only_known cs (put k o more) ≡ true
 put_known cs k None more l n = n
 put_known cs k (Some v) more l n = rw (l, or_true) n
 
-pub entries_known : (cs : List Column) (es : List Entry) → AreEntries es → ((k : List ℕ) → is_listed k (all_columns es) ≡ true → is_listed k cs ≡ true) → only_known cs (all_members es) ≡ true
+pub entries_known : (cs : List Column) (es : List Entry) → AreEntries es
+    → ((k : List ℕ) → is_listed k (all_columns es) ≡ true → is_listed k cs ≡ true)
+    → only_known cs (all_members es) ≡ true
 entries_known cs [] a h = refl
 entries_known cs (e ∷ es) a h =
     put_known cs e.key e.value (all_members es) (h e.key (listed_first e.key (columns_of e.cells) (all_columns es) a.0.listed))
     (entries_known cs es a.2 (λ k l. h k (listed_later k (columns_of e.cells) (all_columns es) l)))
 
-put_text : (k : List ℕ) (o : Option Json) (more : Members) → AreCodeUnits k → HasOptionText o → MembersHaveText more → MembersHaveText (put k o more)
+put_text : (k : List ℕ) (o : Option Json) (more : Members) → AreCodeUnits k → HasOptionText o → MembersHaveText more
+    → MembersHaveText (put k o more)
 put_text k None more t u m = m
 put_text k (Some v) more t u m = (t, u, m)
 

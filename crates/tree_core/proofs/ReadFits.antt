@@ -21,6 +21,7 @@ use Rattle.tree_core.proofs.Ascii.{is_ascii, text_of_ascii}
 use Rattle.tree_core.proofs.Cases.{both, if_some, map_some, none_some, some_same, then_some, bytes_equal}
 use Rattle.tree_core.proofs.Found.{part_found, part_in-part_found}
 use Rattle.tree_core.specs.Kinds.{all_kinds}
+use Rattle.tree_core.proofs.Classes.{is_empty-atom, is_flags-Flags, key_of_class}
 use Rattle.tree_core.proofs.Fits.{FitFields, FitItems, Fits, FitsAtom, FitsHead, FitsNext, FitsPart, TakesList, TakesNode, inner_part}
 use Rattle.tree_core.proofs.RowFacts.{are_followed, are_ordered, ascii_words, is_flags, is_followed, row_kind, row_sound}
 
@@ -39,7 +40,8 @@ below_bound bound (number (pos m)) n e =
     let same = some_same m n t.1 in
     (ap (λ k. number (pos k)) same, subst (λ k. k < bound) same (ltb-true m bound t.0))
 
-text_in_string : (d : Json) (x : Text) → text_in d ≡ Some x → (us : List ℕ) × (d ≡ string us) × (text_of_units us ≡ Some x)
+text_in_string : (d : Json) (x : Text) → text_in d ≡ Some x
+    → (us : List ℕ) × (d ≡ string us) × (text_of_units us ≡ Some x)
 text_in_string null x e = none_some x e
 text_in_string (truth b) x e = none_some x e
 text_in_string (number n) x e = none_some x e
@@ -87,7 +89,8 @@ word_here true w s ws i k b a e later =
     (0, (let f = some_same i k e in omega arith), (same, subst (λ x. is_ascii x ≡ true) same a))
 word_here false w s ws i k b a e later = let r = later e in (suc r.0, (let f : k ≡ (i + 1) + r.0 = r.1 in omega arith), r.2)
 
-word_found : (ws : List (List ℕ)) (s : List ℕ) (i k : ℕ) → list_all is_ascii ws ≡ true → position_from (λ x. bytes_eq x s) i ws ≡ Some k
+word_found : (ws : List (List ℕ)) (s : List ℕ) (i k : ℕ) → list_all is_ascii ws ≡ true
+    → position_from (λ x. bytes_eq x s) i ws ≡ Some k
     → (j : ℕ) × (k ≡ i + j) × IsWordAt ws s j
 word_found [] s i k a e = none_some k e
 word_found (w ∷ ws) s i k a e =
@@ -109,19 +112,22 @@ as_part : (c : FieldClass) (p q : Parts) → Some p ≡ Some q → FitsPart c p 
 as_part c p q e f = subst (FitsPart c) (some_same p q e) f
 
 -- null in place of a part
-null_or : (c : FieldClass) (d : Json) (o : Option Parts) (p : Parts) → or_null d o ≡ Some p → FitsPart c (one empty) → (o ≡ Some p → FitsPart c p) → FitsPart c p
+null_or : (c : FieldClass) (d : Json) (o : Option Parts) (p : Parts) → or_null d o ≡ Some p → FitsPart c (one empty)
+    → (o ≡ Some p → FitsPart c p) → FitsPart c p
 null_or c d o p e none some = by_test (is_null_value d) e
   where
     by_test : (b : Bool) → (if b then Some (one empty) else o) ≡ Some p → FitsPart c p
     by_test true f = as_part c (one empty) p f none
     by_test false f = some f
 
-text_part : (c : FieldClass) (d : Json) (p : Parts) → ((x : Text) → IsUtf8 x → FitsAtom c (text x)) → option_map (λ x. one (text x)) (text_in d) ≡ Some p → FitsPart c p
+text_part : (c : FieldClass) (d : Json) (p : Parts) → ((x : Text) → IsUtf8 x → FitsAtom c (text x))
+    → option_map (λ x. one (text x)) (text_in d) ≡ Some p → FitsPart c p
 text_part c d p h e =
     let a = map_some (λ x. one (text x)) (text_in d) p e in
     subst (FitsPart c) a.2 (h a.0 (text_is_utf8 d a.0 a.1))
 
-units_part : (c : FieldClass) (d : Json) (p : Parts) → ((us : List ℕ) → AreCodeUnits us → FitsAtom c (units us)) → option_map (λ x. one (units x)) (units_in d) ≡ Some p → FitsPart c p
+units_part : (c : FieldClass) (d : Json) (p : Parts) → ((us : List ℕ) → AreCodeUnits us → FitsAtom c (units us))
+    → option_map (λ x. one (units x)) (units_in d) ≡ Some p → FitsPart c p
 units_part c d p h e =
     let a = map_some (λ x. one (units x)) (units_in d) p e in
     subst (FitsPart c) a.2 (h a.0 (units_are_code_units d a.0 a.1))
@@ -130,7 +136,8 @@ units_part c d p h e =
 text_back : (x : Text) → IsUtf8 x → option_map (λ y. one (text y)) (text_in (string (units_of x))) ≡ Some (one (text x))
 text_back x u = ap (option_map (λ y. one (text y))) (text_of_units-units_of x u)
 
-units_back : (us : List ℕ) → AreCodeUnits us → option_map (λ y. one (units y)) (units_in (string us)) ≡ Some (one (units us))
+units_back : (us : List ℕ) → AreCodeUnits us
+    → option_map (λ y. one (units y)) (units_in (string us)) ≡ Some (one (units us))
 units_back us a = ap (option_map (λ y. one (units y))) (units_again us a)
 
 absent_fits : (c : FieldClass) (p : Parts) → absent c ≡ Some p → FitsPart c p
@@ -174,7 +181,8 @@ value_fits (list ds) p e = units_part LiteralValue (list ds) p (λ vs a. ((λ t 
 value_fits (object no_members) p e = as_part LiteralValue (one empty) p e ((λ t ts. refl), tt)
 value_fits (object (member k d ms)) p e = none_some p e
 
-regex_fits : (c : FieldClass) (k : List ℕ) (d : Json) (p : Parts) → FitsPart c (one empty) → ((x : Text) → IsUtf8 x → FitsAtom c (text x)) → regex_part k d ≡ Some p → FitsPart c p
+regex_fits : (c : FieldClass) (k : List ℕ) (d : Json) (p : Parts) → FitsPart c (one empty)
+    → ((x : Text) → IsUtf8 x → FitsAtom c (text x)) → regex_part k d ≡ Some p → FitsPart c p
 regex_fits c k null p none some e = as_part c (one empty) p e none
 regex_fits c k (object ms) p none some e =
     let t = if_some (are_distinct ms && has_only (codes "pattern") (codes "flags") ms) _ p e in
@@ -187,7 +195,8 @@ regex_fits c k other_number p none some e = none_some p e
 regex_fits c k (string us) p none some e = none_some p e
 regex_fits c k (list ds) p none some e = none_some p e
 
-template_text : (c : FieldClass) (optional : Bool) (o : Option Json) (p : Parts) → (optional ≡ true → FitsPart c (one empty)) → ((us : List ℕ) → AreCodeUnits us → FitsAtom c (units us))
+template_text : (c : FieldClass) (optional : Bool) (o : Option Json) (p : Parts)
+    → (optional ≡ true → FitsPart c (one empty)) → ((us : List ℕ) → AreCodeUnits us → FitsAtom c (units us))
     → elim o [ None ↦ (if optional then Some (one empty) else None) | Some d ↦ (if optional && is_null_value d then Some (one empty) else option_map (λ us. one (units us)) (units_in d)) ] ≡ Some p
     → FitsPart c p
 template_text c true None p none some e = as_part c (one empty) p e (none refl)
@@ -195,7 +204,8 @@ template_text c false None p none some e = none_some p e
 template_text c true (Some d) p none some e = null_or c d (option_map (λ us. one (units us)) (units_in d)) p e (none refl) (λ f. units_part c d p some f)
 template_text c false (Some d) p none some e = units_part c d p some e
 
-template_fits : (c : FieldClass) (optional : Bool) (k : List ℕ) (d : Json) (p : Parts) → (optional ≡ true → FitsPart c (one empty)) → ((us : List ℕ) → AreCodeUnits us → FitsAtom c (units us))
+template_fits : (c : FieldClass) (optional : Bool) (k : List ℕ) (d : Json) (p : Parts)
+    → (optional ≡ true → FitsPart c (one empty)) → ((us : List ℕ) → AreCodeUnits us → FitsAtom c (units us))
     → template_part optional k d ≡ Some p → FitsPart c p
 template_fits c optional k null p none some e = none_some p e
 template_fits c optional k (truth b) p none some e = none_some p e
@@ -207,14 +217,18 @@ template_fits c optional k (object ms) p none some e =
     let t = if_some (are_distinct ms && has_only (codes "raw") (codes "cooked") ms) _ p e in
     template_text c optional (find_member k ms) p none some t.1
 
-name_fits : (d : Json) (p : Parts) → option_and_then (λ x. if is_identifier_name x then Some (one (text x)) else None) (text_in d) ≡ Some p → FitsPart Name p
+name_fits : (d : Json) (p : Parts)
+    → option_and_then (λ x. if is_identifier_name x then Some (one (text x)) else None) (text_in d) ≡ Some p
+    → FitsPart Name p
 name_fits d p e =
     let a = then_some (λ x. if is_identifier_name x then Some (one (text x)) else None) (text_in d) p e in
     let t = if_some (is_identifier_name a.0) (Some (one (text a.0))) p a.2 in
     let u = text_is_utf8 d a.0 a.1 in
     as_part Name (one (text a.0)) p t.1 ((λ o ts. rw (text_of_units-units_of a.0 u, t.0) refl), AreCodeUnits-units_of a.0 u)
 
-word_fits : (w : Words) (d : Json) (p : Parts) → option_map (λ n. one (word n)) (option_and_then (word_number (word_list w)) (text_in d)) ≡ Some p → FitsPart (Word w) p
+word_fits : (w : Words) (d : Json) (p : Parts)
+    → option_map (λ n. one (word n)) (option_and_then (word_number (word_list w)) (text_in d)) ≡ Some p
+    → FitsPart (Word w) p
 word_fits w d p e =
     let a = map_some (λ n. one (word n)) (option_and_then (word_number (word_list w)) (text_in d)) p e in
     let b = then_some (word_number (word_list w)) (text_in d) a.0 a.1 in
@@ -230,7 +244,8 @@ module _ (d : Json) (t : Option Tree) (ts : Bool → Option Parts) (node_fits : 
       let f = node_fits a.0 a.1 in
       subst (FitsPart c) a.2 (h, f.0, f.1)
 
-  list_part : (c : FieldClass) (holes : Bool) (p : Parts) → TakesList c holes → option_map (λ us. many us done) (ts holes) ≡ Some p → FitsPart c p
+  list_part : (c : FieldClass) (holes : Bool) (p : Parts) → TakesList c holes
+      → option_map (λ us. many us done) (ts holes) ≡ Some p → FitsPart c p
   list_part c holes p h e =
       let a = map_some (λ us. many us done) (ts holes) p e in
       subst (FitsPart c) a.2 (holes, h, list_fits holes a.0 a.1)
@@ -258,18 +273,6 @@ module _ (d : Json) (t : Option Tree) (ts : Bool → Option Parts) (node_fits : 
 
 -- ---- the fields of a node
 
-pub is_flags-Flags : (c : FieldClass) → is_flags c ≡ true → c ≡ Flags
-is_flags-Flags Flags e = refl
-is_flags-Flags _ e = absurd (true≢false (sym e))
-
-pub is_empty-one : (a : Atom) → is_empty (one a) ≡ is_null_atom a
-is_empty-one empty = refl
-is_empty-one (flag b) = refl
-is_empty-one (word n) = refl
-is_empty-one (text x) = refl
-is_empty-one (units us) = refl
-is_empty-one (whole n) = refl
-
 empty_first : (a : Atom) (p q : Parts) → is_empty (atom a p) ≡ is_empty (atom a q)
 empty_first empty p q = refl
 empty_first (flag b) p q = refl
@@ -291,23 +294,28 @@ AreTogether part = (c d : Column) (p q : Parts) → c.class ≡ Pattern → d.cl
 abbrev AllFit : (Column → Option Parts) → Type 0
 AllFit part = (c : Column) (p : Parts) → part c ≡ Some p → FitsPart c.class p
 
-next_fits : (part : Column → Option Parts) → AllFit part → AreTogether part → (c : Column) (cs : List Column) (a : Atom) (more : Parts)
-    → part c ≡ Some (one a) → run_of part cs ≡ Some more → (class : FieldClass) → c.class ≡ class → is_followed class cs ≡ true → FitsNext class a more
+next_fits : (part : Column → Option Parts) → AllFit part → AreTogether part
+    → (c : Column) (cs : List Column) (a : Atom) (more : Parts)
+    → part c ≡ Some (one a) → run_of part cs ≡ Some more → (class : FieldClass) → c.class ≡ class
+    → is_followed class cs ≡ true → FitsNext class a more
 next_fits part fit together c [] a more e r Pattern same f = absurd (true≢false (sym f))
 next_fits part fit together c (d ∷ cs) a more e r Pattern same f =
     let b = then_some (λ p. option_map (onto p) (run_of part cs)) (part d) more r in
     let m = map_some (onto b.0) (run_of part cs) more b.2 in
     let flags = is_flags-Flags d.class f in
-    sym (is_empty-one a) ∙ together c d (one a) b.0 same flags e b.1 ∙ sym (is_empty-onto d.class b.0 m.0 (fit d b.0 b.1)) ∙ ap is_empty m.2
+    sym (is_empty-atom a done) ∙ together c d (one a) b.0 same flags e b.1
+    ∙ sym (is_empty-onto d.class b.0 m.0 (fit d b.0 b.1)) ∙ ap is_empty m.2
 next_fits part fit together c cs a more e r _ same f = tt
 
-first_fits : (c : Column) (cs : List Column) (p more : Parts) → FitsPart c.class p → ((a : Atom) → p ≡ one a → FitsNext c.class a more) → FitFields more cs → FitFields (onto p more) (c ∷ cs)
+first_fits : (c : Column) (cs : List Column) (p more : Parts) → FitsPart c.class p
+    → ((a : Atom) → p ≡ one a → FitsNext c.class a more) → FitFields more cs → FitFields (onto p more) (c ∷ cs)
 first_fits c cs (atom a done) more f next rest = (f, next a refl, rest)
 first_fits c cs (child k s e fields done) more f next rest = (f.0, f.1, f.2, rest)
 first_fits c cs (many items done) more f next rest = (f.0, f.1, f.2, rest)
 first_fits c cs _ more f next rest = absurd f
 
-run_fits : (part : Column → Option Parts) → AllFit part → AreTogether part → (cs : List Column) (ps : Parts) → are_followed cs ≡ true → run_of part cs ≡ Some ps → FitFields ps cs
+run_fits : (part : Column → Option Parts) → AllFit part → AreTogether part → (cs : List Column) (ps : Parts)
+    → are_followed cs ≡ true → run_of part cs ≡ Some ps → FitFields ps cs
 run_fits part fit together [] ps f e = subst (λ x. FitFields x []) (some_same done ps e) tt
 run_fits part fit together (c ∷ cs) ps f e =
     let a = then_some (λ p. option_map (onto p) (run_of part cs)) (part c) ps e in
@@ -335,18 +343,17 @@ regex_empty k other_number p e = none_some p e
 regex_empty k (string us) p e = none_some p e
 regex_empty k (list ds) p e = none_some p e
 
-pattern_empty : (c : Column) (o : Option Json) (p : Parts) → c.class ≡ Pattern → part_found c o ≡ Some p → is_empty p ≡ no_regex o
+pattern_empty : (c : Column) (o : Option Json) (p : Parts) → c.class ≡ Pattern → part_found c o ≡ Some p
+    → is_empty p ≡ no_regex o
 unfolding no_regex
 pattern_empty c None p same e = sym (ap is_empty (some_same (one empty) p (sym (ap absent same) ∙ e)))
 pattern_empty c (Some d) p same e = regex_empty c.key d p (sym (ap (λ x. part_from x c.key d (shape_of d) (list_of d)) same) ∙ e)
 
-flags_empty : (c : Column) (o : Option Json) (p : Parts) → c.class ≡ Flags → part_found c o ≡ Some p → is_empty p ≡ no_regex o
+flags_empty : (c : Column) (o : Option Json) (p : Parts) → c.class ≡ Flags → part_found c o ≡ Some p
+    → is_empty p ≡ no_regex o
 unfolding no_regex
 flags_empty c None p same e = sym (ap is_empty (some_same (one empty) p (sym (ap absent same) ∙ e)))
 flags_empty c (Some d) p same e = regex_empty c.key d p (sym (ap (λ x. part_from x c.key d (shape_of d) (list_of d)) same) ∙ e)
-
-key_of_class : (c : Column) (class : FieldClass) (k : List ℕ) → holder class ≡ Some k → c.class ≡ class → outer_key c ≡ k
-key_of_class c class k e same = ap (λ x. elim (holder x) [ Some l ↦ l | None ↦ c.key ]) same ∙ ap (λ o. elim o [ Some l ↦ l | None ↦ c.key ]) e
 
 are_together : (ms : Members) → AreTogether (λ c. part_in ms c)
 are_together ms c d p q pattern flags e f =
@@ -366,7 +373,8 @@ row_found : (ks : List Kind) (name : List ℕ) (r : Row) → row_among ks name �
 row_found [] name r e = none_some r e
 row_found (k ∷ ks) name r e = here (bytes_eq (row k).name name) e (row_found ks name r)
   where
-    here : (b : Bool) → (if b then Some (row k) else row_among ks name) ≡ Some r → (row_among ks name ≡ Some r → (j : Kind) × (row j ≡ r)) → (j : Kind) × (row j ≡ r)
+    here : (b : Bool) → (if b then Some (row k) else row_among ks name) ≡ Some r
+        → (row_among ks name ≡ Some r → (j : Kind) × (row j ≡ r)) → (j : Kind) × (row j ≡ r)
     here true f later = (k, some_same (row k) r f)
     here false f later = later f
 
@@ -381,7 +389,8 @@ row_of_object ms r e =
     let own : row r.kind ≡ r = ap row (ap (λ s. s.kind) (sym (f.1 ∙ same)) ∙ row_kind f.0) ∙ f.1 ∙ same in
     (subst (λ s. is_supported s.kind ≡ true) same t.0, own)
 
-node_fits : (ms : Members) (part : Column → Option Parts) (t : Tree) → AllFit part → AreTogether part → shape_from ms part ≡ Some t → Fits t
+node_fits : (ms : Members) (part : Column → Option Parts) (t : Tree) → AllFit part → AreTogether part
+    → shape_from ms part ≡ Some t → Fits t
 node_fits ms part t fit together e =
     let r = then_some _ (row_for ms) t e in
     let s = then_some _ (offset_of (find_member (codes "start") ms)) t r.2 in
@@ -393,15 +402,20 @@ node_fits ms part t fit together e =
     subst Fits fs.2
     ((own.0, offset_below (find_member (codes "start") ms) s.0 s.1, offset_below (find_member (codes "end") ms) p.0 p.1), subst (λ x. FitFields fs.0 x.columns) (sym own.1) fields)
 
-here_or : (b : Bool) (c : Column) (p : Parts) (d : Json) (rest : Option Parts) → (if b then part_from c.class c.key d (shape_of d) (list_of d) else rest) ≡ Some p
-    → ((t : Tree) → shape_of d ≡ Some t → Fits t) → ((holes : Bool) (us : Parts) → list_of d holes ≡ Some us → FitItems us holes) → (rest ≡ Some p → FitsPart c.class p) → FitsPart c.class p
+here_or : (b : Bool) (c : Column) (p : Parts) (d : Json) (rest : Option Parts)
+    → (if b then part_from c.class c.key d (shape_of d) (list_of d) else rest) ≡ Some p
+    → ((t : Tree) → shape_of d ≡ Some t → Fits t)
+    → ((holes : Bool) (us : Parts) → list_of d holes ≡ Some us → FitItems us holes)
+    → (rest ≡ Some p → FitsPart c.class p) → FitsPart c.class p
 here_or true c p d rest e node items later = part_fits d (shape_of d) (list_of d) node items c.class c.key p e
 here_or false c p d rest e node items later = later e
 
-or_hole_fits : (holes : Bool) (d : Json) (p more : Parts) → ((t : Tree) → shape_of d ≡ Some t → Fits t) → or_hole holes d (option_map alone (shape_of d)) ≡ Some p → FitItems more holes → FitItems (onto p more) holes
+or_hole_fits : (holes : Bool) (d : Json) (p more : Parts) → ((t : Tree) → shape_of d ≡ Some t → Fits t)
+    → or_hole holes d (option_map alone (shape_of d)) ≡ Some p → FitItems more holes → FitItems (onto p more) holes
 or_hole_fits holes d p more fit e rest = by_test (holes && is_null_value d) refl e
   where
-    by_test : (b : Bool) → (holes && is_null_value d) ≡ b → (if b then Some (one empty) else option_map alone (shape_of d)) ≡ Some p → FitItems (onto p more) holes
+    by_test : (b : Bool) → (holes && is_null_value d) ≡ b
+        → (if b then Some (one empty) else option_map alone (shape_of d)) ≡ Some p → FitItems (onto p more) holes
     by_test true h f = subst (λ x. FitItems (onto x more) holes) (some_same (one empty) p f) ((both holes (is_null_value d) h).0, refl, rest)
     by_test false h f =
         let a = map_some alone (shape_of d) p f in
