@@ -118,7 +118,8 @@ cells_read : (k : List ℕ) (o : Option Json) (cs : List Cell) (ms : Members) �
     → run_of (λ c. part_in ms c) (columns_of cs) ≡ Some (parts_of cs)
 cells_read k o [] ms r e = refl
 cells_read k o (c ∷ cs) ms r e =
-    let here : part_in ms c.column ≡ Some c.part = part_in-part_found ms c.column ∙ ap (λ x. part_found c.column (find_member x ms)) r.0 ∙ ap (part_found c.column) e ∙ r.1 in
+    let here : part_in ms c.column ≡ Some c.part =
+    part_in-part_found ms c.column ∙ ap (λ x. part_found c.column (find_member x ms)) r.0 ∙ ap (part_found c.column) e ∙ r.1 in
     rw (here, cells_read k o cs ms r.2 e) refl
 
 -- ---- all keys
@@ -127,7 +128,8 @@ pub not_found : (k : List ℕ) (es : List Entry) → AreEntries es → is_listed
     → find_member k (all_members es) ≡ None
 not_found k [] a h = refl
 not_found k (e ∷ es) a h =
-    let n = neither (is_listed k (columns_of e.cells)) (is_listed k (all_columns es)) (sym (is_listed-append k (columns_of e.cells) (all_columns es)) ∙ h) in
+    let one = is_listed k (columns_of e.cells) in
+    let n = neither one (is_listed k (all_columns es)) (sym (is_listed-append k (columns_of e.cells) (all_columns es)) ∙ h) in
     find_past k e.key e.value (all_members es) (listed_apart e.key k (columns_of e.cells) a.0.listed n.0)
     ∙ not_found k es a.2 n.1
 
@@ -143,7 +145,8 @@ entries_read (e ∷ es) ms a h =
     let later : (k : List ℕ) → is_listed k (all_columns es) ≡ true → find_member k ms ≡ find_member k (all_members es) =
     λ k l. h k (listed_later k (columns_of e.cells) (all_columns es) l)
     ∙ find_past k e.key e.value (all_members es) (bytes_turned k e.key (listed_apart k e.key (all_columns es) l a.1)) in
-    run_of-append (λ c. part_in ms c) (columns_of e.cells) (all_columns es) (parts_of e.cells) (all_parts es) (cells_read e.key e.value e.cells ms a.0.read found) (entries_read es ms a.2 later)
+    run_of-append (λ c. part_in ms c) (columns_of e.cells) (all_columns es) (parts_of e.cells) (all_parts es)
+    (cells_read e.key e.value e.cells ms a.0.read found) (entries_read es ms a.2 later)
 
 put_distinct : (k : List ℕ) (o : Option Json) (more : Members) → find_member k more ≡ None → are_distinct more ≡ true
     → are_distinct (put k o more) ≡ true

@@ -17,4 +17,5 @@ found_or c false d rest o e = e
 
 pub part_in-part_found : (ms : Members) (c : Column) → part_in ms c ≡ part_found c (find_member (outer_key c) ms)
 part_in-part_found no_members c = refl
-part_in-part_found (member k d ms) c = found_or c (bytes_eq k (outer_key c)) d (part_in ms c) (find_member (outer_key c) ms) (part_in-part_found ms c)
+part_in-part_found (member k d ms) c =
+    found_or c (bytes_eq k (outer_key c)) d (part_in ms c) (find_member (outer_key c) ms) (part_in-part_found ms c)
