@@ -1,0 +1,5 @@
+pub mod Refusals
+pub mod Escapes
+pub mod Paths
+pub mod Closes
+pub mod Chains
