@@ -45,7 +45,7 @@ fixes_step true x p q k a b e = rw (e, fixes_text-append p (map (λ m. k ∷ m) 
 fixes_step false x p q k a b e = refl
 
 later : (fs : List Field) (l : Layout) (t : List ℕ) (p : List Part) (x : List ℕ) (r ts rg : Bool) →
-    closed (add_fields (record { out = out_at t (deeper l) p x r ts rg; first = false }) fs)
+    closed (add_fields (record { out = out_at t (deeper l) p x r ts rg; begun = true; first = false }) fs)
     ≡ out_at (t ++ (members_text false l (members_of fs) ++ 125 ∷ [])) l p (cond r (x ++ fixes_text p (field_marks fs)) x) r ts rg
 later [] l t p x true ts rg = rw (shallower-deeper l, append-nil) refl
 later [] l t p x false ts rg = rw (shallower-deeper l) refl
@@ -73,7 +73,7 @@ pub closes_struct : (fs : List Field) (o : Out) → closed (add_fields (opened o
 closes_struct fs o = struct_at fs o.text o.layout o.path o.fixes o.records o.ts o.ranges
 
 later_list : (ms : List Meaning) (i : ℕ) (l : Layout) (t : List ℕ) (p : List Part) (x : List ℕ) (r ts rg : Bool) →
-    closed_list (add_elements (record { out = out_at t (deeper l) p x r ts rg; count = suc i }) ms)
+    closed_list (add_elements (record { out = out_at t (deeper l) p x r ts rg; begun = true; count = suc i }) ms)
     ≡ out_at (t ++ (items_text false l (items_of ms) ++ 93 ∷ [])) l p (cond r (x ++ fixes_text p (element_marks (suc i) ms)) x) r ts rg
 later_list [] i l t p x true ts rg = rw (shallower-deeper l, append-nil) refl
 later_list [] i l t p x false ts rg = rw (shallower-deeper l) refl

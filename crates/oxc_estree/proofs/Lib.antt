@@ -1,5 +1,8 @@
 pub mod Refusals
 pub mod Escapes
+pub mod Units
 pub mod Paths
 pub mod Closes
-pub mod Chains
+pub mod Growth
+pub mod StructUnderWay
+pub mod ListUnderWay

@@ -62,3 +62,15 @@ at_err (Err e) p = p
 pub refused_within : {old now new : Buffer} {first added : List ℕ} (whole rest : List ℕ) → whole ≡ first ++ (added ++ rest) →
     Appends old now first → IsPartlyPrinted now new added → IsPartlyPrinted old new whole
 refused_within whole rest e a p = refused_after whole e a (refused_before _ rest refl p)
+
+-- ---- where no print is refused
+
+pub Appends-trans : {old now new : Buffer} {first rest : List ℕ} → Appends old now first → Appends now new rest → Appends old new (first ++ rest)
+Appends-trans {old} {now} {new} {first} {rest} a b = record {
+  bytes = b.bytes ∙ ap (λ (t : List ℕ). t ++ rest) a.bytes ∙ append_assoc old.bytes first rest;
+  settings = KeepsSettings-trans a.settings b.settings;
+}
+
+pub all_printed : {old now new : Buffer} {first rest : List ℕ} (whole : List ℕ) → whole ≡ first ++ rest →
+    Appends old now first → Appends now new rest → Appends old new whole
+all_printed whole e a b = rw e (Appends-trans a b)

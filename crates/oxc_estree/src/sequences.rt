@@ -1,9 +1,9 @@
 //! Lists that are written element by element.
 
-ghost use Rattle.std.specs.Prelude.{◌≡◌, IfOk, OnErr, OnOk};
-ghost use Rattle.std.specs.Borrow.{GName, RestsIfErr, sem};
-ghost use Rattle.oxc_estree.specs.Open.{OpenList, add_element, closed_list, opened_list};
-ghost use Rattle.oxc_estree.specs.Out.{begun_list, flags};
+ghost use Rattle.std.specs.Prelude.{◌≡◌, IsOkAnd, OnErr, OnOk};
+ghost use Rattle.std.specs.Borrow.{GName};
+ghost use Rattle.oxc_estree.specs.Open.{OpenList, add_element, closed_list, new_list};
+ghost use Rattle.oxc_estree.specs.Out.{flags};
 ghost use Rattle.oxc_estree.specs.Refused.{IsCutShort};
 
 use crate::{ESTree, Serializer};
@@ -35,6 +35,8 @@ pub trait SequenceSerializer {
 }
 
 /// A list that is written to a serializer.
+///
+/// Its opening bracket is written with the first element, or at the end of an empty list.
 #[derive(Drop)]
 pub struct ESTreeSequenceSerializer<'s, S: Serializer> {
     serializer: &'s mut S,
@@ -42,24 +44,27 @@ pub struct ESTreeSequenceSerializer<'s, S: Serializer> {
 }
 
 impl<'s, S: Serializer> ESTreeSequenceSerializer<'s, S> {
-    /// Opens a list.
+    /// Opens a list. It takes no memory, so it succeeds.
     pub fn new(serializer: &'s mut S) -> Result<Self, AllocError>
-        ensures* refused {
-            sem 𝓛 (RestsIfErr S.row serializer.entry (λ r. r.serializer.ghost_name) result
-                (λ s. IsCutShort (S.out serializer.old) (S.out s) (begun_list (S.out serializer.old)))) }
         ensures same_reference {
-            IfOk result (λ r. r.serializer.ghost_name ≡ serializer.entry.ghost_name) }
+            IsOkAnd result (λ r.
+                ⟦<ESTreeSequenceSerializer<'s, S> as SequenceSerializer>⟧.place r
+                    ≡ serializer.entry.ghost_name) }
         ensures ok {
-            IfOk result (λ r. record { out = S.out r.serializer.now; count = r.len }
-                ≡ opened_list (S.out serializer.old)) }
+            IsOkAnd result (λ r.
+                ⟦<ESTreeSequenceSerializer<'s, S> as SequenceSerializer>⟧.state r
+                    ≡ new_list (S.out serializer.old)) }
     {
-        serializer.begin_sequence()?;
         Ok(ESTreeSequenceSerializer { serializer, len: 0 })
     }
 }
 
 impl<'s, S: Serializer> SequenceSerializer for ESTreeSequenceSerializer<'s, S> {
-    ghost state = { λ s. record { out = S.out s.serializer.now; count = s.len } };
+    ghost use Rattle.std.specs.Prelude.{not};
+    ghost use Rattle.oxc_estree.specs.Out.{is_zero};
+
+    ghost state = { λ s.
+      record { out = S.out s.serializer.now; begun = not (is_zero s.len); count = s.len } };
 
     ghost place = { λ s. s.serializer.ghost_name };
 
@@ -67,6 +72,9 @@ impl<'s, S: Serializer> SequenceSerializer for ESTreeSequenceSerializer<'s, S> {
         let len = self.len;
         if len == usize::MAX {
             return Err(AllocError);
+        }
+        if len == 0 {
+            self.serializer.begin_sequence()?;
         }
         self.serializer.begin_element(len)?;
         value.serialize(self.serializer)?;
@@ -78,12 +86,15 @@ impl<'s, S: Serializer> SequenceSerializer for ESTreeSequenceSerializer<'s, S> {
     fn end(self) -> Result<(), AllocError>
         ensures ok {
             OnOk result (S.out self.exit.0.now
-                ≡ closed_list (record { out = S.out self.entry.serializer.now; count = self.entry.len })) }
+                ≡ closed_list (⟦<ESTreeSequenceSerializer<'s, S> as SequenceSerializer>⟧.state self.entry)) }
         ensures refused {
-            OnErr result (IsCutShort (S.out self.entry.serializer.now) (S.out self.exit.0.now)
-                (closed_list (record { out = S.out self.entry.serializer.now; count = self.entry.len }))) }
+            let list = ⟦<ESTreeSequenceSerializer<'s, S> as SequenceSerializer>⟧.state self.entry in
+            OnErr result (IsCutShort list.out (S.out self.exit.0.now) (closed_list list)) }
     {
         let empty = self.len == 0;
+        if empty {
+            self.serializer.begin_sequence()?;
+        }
         self.serializer.end_sequence(empty)
     }
 }

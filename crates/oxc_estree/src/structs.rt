@@ -1,9 +1,9 @@
 //! Structs that are written field by field.
 
-ghost use Rattle.std.specs.Prelude.{◌≡◌, IfOk, OnErr, OnOk};
-ghost use Rattle.std.specs.Borrow.{GName, RestsIfErr, sem};
-ghost use Rattle.oxc_estree.specs.Open.{OpenStruct, add_field, closed, opened};
-ghost use Rattle.oxc_estree.specs.Out.{begun_struct, flags};
+ghost use Rattle.std.specs.Prelude.{◌≡◌, IsOkAnd, OnErr, OnOk};
+ghost use Rattle.std.specs.Borrow.{GName};
+ghost use Rattle.oxc_estree.specs.Open.{OpenStruct, add_field, closed, new_struct};
+ghost use Rattle.oxc_estree.specs.Out.{flags};
 ghost use Rattle.oxc_estree.specs.Refused.{IsCutShort};
 
 use crate::{Config, ESTree, Formatter, Serializer};
@@ -51,6 +51,8 @@ pub trait StructSerializer {
 }
 
 /// A struct that is written to a serializer.
+///
+/// Its opening brace is written with the first field, or at the end of an empty struct.
 #[derive(Drop)]
 pub struct ESTreeStructSerializer<'s, S: Serializer> {
     serializer: &'s mut S,
@@ -58,18 +60,17 @@ pub struct ESTreeStructSerializer<'s, S: Serializer> {
 }
 
 impl<'s, S: Serializer> ESTreeStructSerializer<'s, S> {
-    /// Opens a struct.
+    /// Opens a struct. It takes no memory, so it succeeds.
     pub fn new(serializer: &'s mut S) -> Result<Self, AllocError>
-        ensures* refused {
-            sem 𝓛 (RestsIfErr S.row serializer.entry (λ r. r.serializer.ghost_name) result
-                (λ s. IsCutShort (S.out serializer.old) (S.out s) (begun_struct (S.out serializer.old)))) }
         ensures same_reference {
-            IfOk result (λ r. r.serializer.ghost_name ≡ serializer.entry.ghost_name) }
+            IsOkAnd result (λ r.
+                ⟦<ESTreeStructSerializer<'s, S> as StructSerializer>⟧.place r
+                    ≡ serializer.entry.ghost_name) }
         ensures ok {
-            IfOk result (λ r. record { out = S.out r.serializer.now; first = r.first }
-                ≡ opened (S.out serializer.old)) }
+            IsOkAnd result (λ r.
+                ⟦<ESTreeStructSerializer<'s, S> as StructSerializer>⟧.state r
+                    ≡ new_struct (S.out serializer.old)) }
     {
-        serializer.begin_struct()?;
         Ok(ESTreeStructSerializer {
             serializer,
             first: true,
@@ -78,11 +79,14 @@ impl<'s, S: Serializer> ESTreeStructSerializer<'s, S> {
 }
 
 impl<'s, S: Serializer> StructSerializer for ESTreeStructSerializer<'s, S> {
+    ghost use Rattle.std.specs.Prelude.{not};
+
     type Config = S::Config;
 
     type Formatter = S::Formatter;
 
-    ghost state = { λ s. record { out = S.out s.serializer.now; first = s.first } };
+    ghost state = { λ s.
+      record { out = S.out s.serializer.now; begun = not s.first; first = s.first } };
 
     ghost place = { λ s. s.serializer.ghost_name };
 
@@ -100,22 +104,28 @@ impl<'s, S: Serializer> StructSerializer for ESTreeStructSerializer<'s, S> {
         value: &T,
     ) -> Result<(), AllocError> {
         let first = self.first;
+        if first {
+            self.serializer.begin_struct()?;
+        }
         self.serializer.begin_field(key, first)?;
-        self.first = false;
         value.serialize(self.serializer)?;
         self.serializer.end_field();
+        self.first = false;
         Ok(())
     }
 
     fn end(self) -> Result<(), AllocError>
         ensures ok {
             OnOk result (S.out self.exit.0.now
-                ≡ closed (record { out = S.out self.entry.serializer.now; first = self.entry.first })) }
+                ≡ closed (⟦<ESTreeStructSerializer<'s, S> as StructSerializer>⟧.state self.entry)) }
         ensures refused {
-            OnErr result (IsCutShort (S.out self.entry.serializer.now) (S.out self.exit.0.now)
-                (closed (record { out = S.out self.entry.serializer.now; first = self.entry.first }))) }
+            let fields = ⟦<ESTreeStructSerializer<'s, S> as StructSerializer>⟧.state self.entry in
+            OnErr result (IsCutShort fields.out (S.out self.exit.0.now) (closed fields)) }
     {
-        let first = self.first;
-        self.serializer.end_struct(first)
+        let empty = self.first;
+        if empty {
+            self.serializer.begin_struct()?;
+        }
+        self.serializer.end_struct(empty)
     }
 }
