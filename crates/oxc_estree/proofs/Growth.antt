@@ -2,7 +2,8 @@
 use Rattle.std.proofs.Common.{◌≡◌, ℕ, List, [], ◌∷◌, ◌++◌, Bool, true, false, ap, ◌∙◌, sym, refl, append-nil, append_assoc}
 use Rattle.oxc_estree.specs.Out.{Out, Flags, flags, Meaning, wrote, begun_struct, begun_field, ended_field, ended_struct, begun_list, begun_element, ended_list}
 use Rattle.oxc_estree.specs.Open.{Field, OpenStruct, with_brace, add_field, add_fields, closed, OpenList, with_bracket, add_element, add_elements, closed_list}
-use Rattle.oxc_estree.specs.Refused.{IsPrefix, KeepsFlags, IsCutShort}
+use Rattle.oxc_data_structures.specs.CodeBuffer.{Buffer}
+use Rattle.oxc_estree.specs.Refused.{IsPrefix, KeepsFlags, IsCutShort, IsPartlyPrinted}
 use Rattle.oxc_estree.proofs.Refusals.{IsPrefix-refl, IsPrefix-append, IsPrefix-trans}
 
 -- the new serializer has the old one's text at the front of its own, and goes by the same flags
@@ -106,3 +107,8 @@ cut_short_after g h = record {
 -- a refusal before others were asked
 pub cut_short_before : {old new full whole : Out} → Grows full whole → IsCutShort old new full → IsCutShort old new whole
 cut_short_before g h = record { kept = h.kept; within = IsPrefix-trans h.within g.text; flags = h.flags }
+
+-- a print to the buffer of the text was refused
+pub cut_short_by_print : {b n : Buffer} {added : List ℕ} (old new full : Out) → old.text ≡ b.bytes → new.text ≡ n.bytes → full.text ≡ b.bytes ++ added →
+    KeepsFlags old new → IsPartlyPrinted b n added → IsCutShort old new full
+cut_short_by_print old new full a e f flags p = record { kept = rw (a, e) p.kept; within = rw (e, f) p.within; flags = flags }

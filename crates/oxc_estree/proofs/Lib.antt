@@ -6,3 +6,6 @@ pub mod Closes
 pub mod Growth
 pub mod StructUnderWay
 pub mod ListUnderWay
+pub mod Loops
+pub mod Envelopes
+pub mod EnvelopeReads

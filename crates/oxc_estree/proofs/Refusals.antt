@@ -74,3 +74,11 @@ Appends-trans {old} {now} {new} {first} {rest} a b = record {
 pub all_printed : {old now new : Buffer} {first rest : List ℕ} (whole : List ℕ) → whole ≡ first ++ rest →
     Appends old now first → Appends now new rest → Appends old new whole
 all_printed whole e a b = rw e (Appends-trans a b)
+
+-- a refusal after all was printed
+pub all_refused : {old new : Buffer} {added : List ℕ} → Appends old new added → IsPartlyPrinted old new added
+all_refused {old} {new} {added} a = record {
+  kept = record { rest = added; is = a.bytes };
+  within = record { rest = []; is = sym a.bytes ∙ sym (append-nil new.bytes) };
+  settings = a.settings;
+}

@@ -1,5 +1,5 @@
 -- What a serializer holds, what each step makes of it, and what a value adds.
-use Rattle.std.specs.Prelude.{ℕ, zero, suc, ◌-◌, pos, List, [], ◌∷◌, ◌++◌, Bool, true, false, cond, take, length}
+use Rattle.std.specs.Prelude.{◌≡◌, ℕ, zero, suc, ◌-◌, pos, List, [], ◌∷◌, ◌++◌, Bool, true, false, cond, take, length}
 use Rattle.json_text.specs.Json.{Json, whole, string, list, Items, no_items, item}
 use Rattle.json_text.specs.Units.{units_of}
 use Rattle.json_text.specs.Layout.{Layout, compact, deeper, shallower, start_layout}
@@ -134,3 +134,7 @@ new_out records is_compact ts ranges = record {
   ts = ts;
   ranges = ranges;
 }
+
+-- nothing is written yet, and this is the layout
+abbrev pub IsNew : Bool → Out → Type 0
+IsNew is_compact o = o ≡ new_out o.records is_compact o.ts o.ranges

@@ -1,11 +1,14 @@
 //! The serializer that writes to a buffer of its own.
 
-ghost use Rattle.std.specs.Prelude.{◌≡◌, IfOk, refl, string_bytes};
-ghost use Rattle.oxc_estree.specs.Out.{new_out};
+ghost use Rattle.std.specs.Prelude.{◌≡◌, IfOk, IsTrue, OnOk, refl, string_bytes};
+ghost use Rattle.json_text.specs.Layout.{start_layout};
+ghost use Rattle.oxc_data_structures.specs.CodeBuffer.{Appends};
+ghost use Rattle.oxc_estree.specs.Envelope.{envelope, fixes_member};
+ghost use Rattle.oxc_estree.specs.Out.{IsNew, flags, new_out};
 ghost use Rattle.oxc_estree.specs.TracePathPart.{path_of};
 
-use crate::pieces::{print_before, print_closing, print_key, print_path};
-use crate::{Config, Formatter, Serializer, TracePathPart};
+use crate::pieces::{print_before, print_closing, print_fixes, print_key, print_path};
+use crate::{Config, ESTree, Formatter, Serializer, TracePathPart};
 use oxc_data_structures::code_buffer::CodeBuffer;
 use std::alloc::{AllocError, Global};
 
@@ -32,6 +35,31 @@ impl<C: Config + Drop, F: Formatter + Drop> ESTreeSerializer<C, F> {
             fixes: CodeBuffer::new(alloc),
             config: C::new(include_ts_fields, ranges),
         })
+    }
+
+    /// The text of a node, with the paths to what has to be mended in it, since JSON can't hold it:
+    /// `{"node":`, a line feed, the node, a line feed, `,"fixes":[`, the paths with commas between
+    /// them, `]}`.
+    ///
+    /// Nothing was written to the serializer yet, and its config records fix paths.
+    pub fn serialize_with_fixes<T: ESTree>(mut self, node: &T) -> Result<String, AllocError>
+        requires records { IsTrue C.records }
+        requires nothing_written { IsNew F.IS_COMPACT (⟦<ESTreeSerializer<C, F> as Serializer>⟧.out self) }
+        ensures {
+            IfOk result (λ s. string_bytes s
+                ≡ envelope (start_layout F.IS_COMPACT)
+                    (T.meaning node.now (flags (⟦<ESTreeSerializer<C, F> as Serializer>⟧.out self)))) }
+    {
+        self.buffer.print_str("{\"node\":\n")?;
+        node.serialize(&mut self)?;
+        self.print_fixes()?;
+        Ok(self.buffer.into_string())
+    }
+
+    fn print_fixes(&mut self) -> Result<(), AllocError>
+        ensures { OnOk result (Appends self.old.buffer self.new.buffer (fixes_member self.old.fixes.bytes)) }
+    {
+        print_fixes(&mut self.buffer, &self.fixes)
     }
 
     /// The text so far.

@@ -5,6 +5,7 @@ ghost use Rattle.json_text.specs.Layout.{compact};
 ghost use Rattle.json_text.specs.Text.{before, closing, items_text, key_text, text_of};
 ghost use Rattle.json_text.specs.Units.{units_of};
 ghost use Rattle.oxc_data_structures.specs.CodeBuffer.{Appends};
+ghost use Rattle.oxc_estree.specs.Envelope.{fixes_member, without_comma};
 ghost use Rattle.oxc_estree.specs.Out.{front, layout_inside, layout_outside, part_value, parts_items, path_text};
 ghost use Rattle.oxc_estree.specs.Refused.{IsPartlyPrinted};
 ghost use Rattle.oxc_estree.specs.TracePathPart.{part_of, path_of};
@@ -115,4 +116,20 @@ fn print_part(fixes: &mut CodeBuffer, part: &TracePathPart) -> Result<(), AllocE
             fixes.print_str(buffer.format(*index))
         }
     }
+}
+
+/// Appends the paths that were recorded, each of which stands after a comma, as the last member of
+/// an object.
+pub(crate) fn print_fixes(buffer: &mut CodeBuffer, fixes: &CodeBuffer) -> Result<(), AllocError>
+    ensures { OnOk result (Appends buffer.old buffer.new (fixes_member fixes.now.bytes)) }
+{
+    buffer.print_str("\n,\"fixes\":[")?;
+    buffer.print_str(skip_comma(fixes.as_str()))?;
+    buffer.print_str("]}")
+}
+
+fn skip_comma(text: &str) -> &str
+    ensures { result.now ≡ without_comma text.now }
+{
+    text.strip_prefix(',').unwrap_or(text)
 }
