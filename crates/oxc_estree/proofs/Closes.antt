@@ -1,10 +1,9 @@
-use Rattle.std.proofs.Common.{◌≡◌, ℕ, zero, suc, List, [], ◌∷◌, ◌++◌, Bool, true, false, cond, map, ap, ◌∙◌, sym, refl, append_assoc, append-nil, arith, ◌-◌}
-use Rattle.json_text.specs.Json.{Json}
+use Rattle.std.proofs.Common.{◌≡◌, ℕ, suc, List, [], ◌∷◌, ◌++◌, Bool, true, false, cond, map, ap, ◌∙◌, sym, refl, append_assoc, append-nil, arith, ◌-◌}
 use Rattle.json_text.specs.Units.{units_of}
-use Rattle.json_text.specs.Layout.{Layout, compact, pretty, deeper, shallower, new_line}
-use Rattle.json_text.specs.Text.{text_of, members_text, items_text, before, key_text, closing}
+use Rattle.json_text.specs.Layout.{Layout, compact, pretty, deeper, shallower}
+use Rattle.json_text.specs.Text.{text_of, members_text, items_text, before, key_text}
 use Rattle.oxc_estree.specs.Out.{Out, Part, key, index, Meaning, fixes_text, front, path_text, wrote}
-use Rattle.oxc_estree.specs.Open.{Field, OpenStruct, opened, add_field, add_fields, closed, members_of, field_marks, object_of, OpenList, opened_list, add_element, add_elements, closed_list, items_of, element_marks, list_of}
+use Rattle.oxc_estree.specs.Open.{Field, OpenStruct, opened, add_fields, closed, members_of, field_marks, object_of, OpenList, opened_list, add_elements, closed_list, items_of, element_marks, list_of}
 use Rattle.oxc_estree.proofs.Paths.{front-append}
 
 pub shallower-deeper : (l : Layout) → shallower (deeper l) ≡ l

@@ -1,7 +1,7 @@
 -- The text of a node with its fix paths reads as one object.
-use Rattle.std.proofs.Common.{◌≡◌, ℕ, List, [], ◌∷◌, ◌++◌, true, false, ap, ◌∙◌, sym, refl, append_assoc, append-nil, codes, inl, inr}
+use Rattle.std.proofs.Common.{◌≡◌, ℕ, List, [], ◌∷◌, ◌++◌, true, false, sym, refl, append_assoc, append-nil, codes, inl, inr}
 use lib.Utf8.{encode}
-use Rattle.json_text.specs.Json.{Json, Items, list, object, no_members, member}
+use Rattle.json_text.specs.Json.{list, no_members, member}
 use Rattle.json_text.specs.Layout.{Layout, compact}
 use Rattle.json_text.specs.Text.{text_of}
 use Rattle.json_text.specs.HasText.{AreCodeUnits, HasText, TextReadsAlone}
@@ -46,10 +46,10 @@ envelope_reads texts l m h = of_parts ((texts l m.value h.1).0) ((texts compact 
     of_parts (w, a, z, e, sw, ra, sz) (v, b, y, f, sv, rb, sy) =
         let before_fixes : IsBefore false ((z ++ 10 ∷ []) ++ 44 ∷ []) = (z ++ 10 ∷ [], [], refl, IsSpace-append z (10 ∷ []) sz (line_feed [] tt), tt) in
         let fixes : ReadsMembers false (after_node z v b y) (member (codes "fixes") (list (fix_paths m.marks)) no_members) =
-            ((z ++ 10 ∷ []) ++ 44 ∷ [], codes "\"fixes\"", 58 ∷ v, b, after_paths y, refl, before_fixes, fixes_key h.2.0, ([], v, refl, tt, sv), rb, (y, refl, sy)) in
+        ((z ++ 10 ∷ []) ++ 44 ∷ [], codes "\"fixes\"", 58 ∷ v, b, after_paths y, refl, before_fixes, fixes_key h.2.0, ([], v, refl, tt, sv), rb, (y, refl, sy)) in
         let colon : IsColon (58 ∷ 10 ∷ w) = ([], 10 ∷ w, refl, tt, line_feed w sw) in
         let members : ReadsMembers true (after_brace w a z v b y) (member (codes "node") m.value (member (codes "fixes") (list (fix_paths m.marks)) no_members)) =
-            ([], codes "\"node\"", 58 ∷ 10 ∷ w, a, after_node z v b y, refl, tt, node_key h.0, colon, ra, fixes) in
+        ([], codes "\"node\"", 58 ∷ 10 ∷ w, a, after_node z v b y, refl, tt, node_key h.0, colon, ra, fixes) in
         ([], envelope l m, [], sym (append-nil (envelope l m)), tt, (after_brace w a z v b y, tokens w a z v b y _ _ e f, members), tt)
 
 pub reads_alone : TextReadsAlone → ReadsOnce → EnvelopeReadsAlone

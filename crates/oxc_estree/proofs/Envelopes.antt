@@ -1,7 +1,6 @@
 -- The whole text of a value and its fix paths.
 use Rattle.std.proofs.Common.{◌≡◌, ℕ, List, [], ◌∷◌, ◌++◌, true, false, ap, ◌∙◌, sym, refl, append_assoc, codes, ◌≢◌, Bool, subst, cond, nat_eq, Option, Some, None, MatchOption, unwrap_or, Bor}
 use Rattle.std.proofs.lemmas.Bool.{eqb-true}
-use Rattle.json_text.specs.Json.{list}
 use Rattle.json_text.specs.Layout.{Layout, compact, start_layout}
 use Rattle.json_text.specs.Text.{text_of, items_text}
 use Rattle.oxc_estree.specs.Out.{Out, Flags, flags, IsNew, new_out, adds, wrote, Part, Meaning, fixes_text, path_text, path_value, front}

@@ -1,6 +1,6 @@
 -- Each step appends to the text, and keeps what a serializer goes by.
-use Rattle.std.proofs.Common.{◌≡◌, ℕ, List, [], ◌∷◌, ◌++◌, Bool, true, false, ap, ◌∙◌, sym, refl, append-nil, append_assoc}
-use Rattle.oxc_estree.specs.Out.{Out, Flags, flags, Meaning, wrote, begun_struct, begun_field, ended_field, ended_struct, begun_list, begun_element, ended_list}
+use Rattle.std.proofs.Common.{◌≡◌, ℕ, List, [], ◌∷◌, ◌++◌, Bool, true, false, ◌∙◌, refl}
+use Rattle.oxc_estree.specs.Out.{Out, flags, Meaning, wrote, begun_struct, begun_field, ended_field, ended_struct, begun_list, begun_element, ended_list}
 use Rattle.oxc_estree.specs.Open.{Field, OpenStruct, with_brace, add_field, add_fields, closed, OpenList, with_bracket, add_element, add_elements, closed_list}
 use Rattle.oxc_data_structures.specs.CodeBuffer.{Buffer}
 use Rattle.oxc_estree.specs.Refused.{IsPrefix, KeepsFlags, IsCutShort, IsPartlyPrinted}

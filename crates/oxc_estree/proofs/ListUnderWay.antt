@@ -1,8 +1,8 @@
 -- A list on the way: what was written, and which elements are left. A caller that writes a list keeps
 -- such a fact from call to call; each exit then wants one lemma.
-use Rattle.std.proofs.Common.{◌≡◌, ℕ, zero, suc, List, [], ◌∷◌, ◌++◌, Bool, true, false, ap, ◌∙◌, sym, refl, ◌==◌}
+use Rattle.std.proofs.Common.{◌≡◌, ℕ, zero, suc, List, [], ◌∷◌, ◌++◌, true, ap, ◌∙◌, sym, refl, ◌==◌}
 use Rattle.std.proofs.Math.Dec.{eqb-suc-zero}
-use Rattle.oxc_estree.specs.Out.{Out, Flags, flags, Meaning, wrote, begun_list, begun_element, ended_field, ended_list, is_zero}
+use Rattle.oxc_estree.specs.Out.{Out, Flags, flags, Meaning, wrote, begun_list, begun_element, ended_field, is_zero}
 use Rattle.oxc_estree.specs.Open.{OpenList, new_list, opened_list, add_element, add_elements, closed_list, list_of}
 use Rattle.oxc_estree.specs.Refused.{IsCutShort}
 use Rattle.oxc_estree.proofs.Closes.{closes_list}

@@ -1,5 +1,5 @@
 -- What is left where one print of several is refused.
-use Rattle.std.proofs.Common.{◌≡◌, ◌≤◌, ℕ, List, [], ◌∷◌, ◌++◌, ap, ◌∙◌, sym, refl, append_assoc, append-nil, arith, Result, Ok, Err, OnErr}
+use Rattle.std.proofs.Common.{◌≡◌, ℕ, List, [], ◌++◌, ap, ◌∙◌, sym, refl, append_assoc, append-nil, arith, Result, Ok, Err, OnErr}
 use Rattle.oxc_data_structures.specs.CodeBuffer.{Buffer, KeepsSettings, Appends, IsUnchanged}
 use Rattle.oxc_estree.specs.Refused.{IsPrefix, IsPartlyPrinted}
 

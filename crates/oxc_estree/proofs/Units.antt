@@ -1,12 +1,12 @@
 -- The text of a text's code units is its characters', each escaped where it has to be.
-use Rattle.std.proofs.Common.{◌≡◌, ℕ, suc, ◌+◌, ◌-◌, ◌*◌, ◌/◌, ◌%◌, ◌<◌, ◌≤◌, ◌⊎◌, ⊎_elim, inl, inr, ◌&&◌, List, [], ◌∷◌, ◌++◌, Bool, true, false, cond, nat_lt, nat_le, nat_eq, flat_map, map, ap, ◌∙◌, sym, refl, subst, arith, Some, None, encode_utf8, append_assoc, length, get_or, take, drop}
+use Rattle.std.proofs.Common.{◌≡◌, ℕ, suc, ◌+◌, ◌-◌, ◌*◌, ◌/◌, ◌%◌, ◌<◌, ◌≤◌, ◌⊎◌, ⊎_elim, inl, inr, ◌&&◌, List, [], ◌∷◌, ◌++◌, Bool, true, false, nat_lt, flat_map, map, ap, ◌∙◌, sym, refl, arith, None, encode_utf8, append_assoc, length, get_or, take, drop}
 use Rattle.std.proofs.lemmas.Bool.Decides.{nat_tests}
 use Rattle.std.proofs.Math.Utf8.{scalar, scalars}
 use Rattle.std.proofs.Math.Seq.{drop-cons}
 use Rattle.std.proofs.lemmas.List.{take-append-drop}
 use Rattle.std.proofs.lemmas.List.Concat.{flat_map-append}
 use Rattle.std.specs.Char.Escape.{encode_utf16}
-use Rattle.json_text.specs.Strings.{is_lead, is_trail, waits, unit_text, units_text, char_text, joined, quoted_units}
+use Rattle.json_text.specs.Strings.{is_lead, is_trail, units_text, char_text, joined, quoted_units}
 use lib.Utf8.{scalar_cases}
 
 and_both : (a b : Bool) → (a && b) ≡ true → (a ≡ true) × (b ≡ true)
@@ -91,8 +91,8 @@ quoted_at cs xs us c u t h =
     let n = length xs in
     let rest = drop (suc n) cs in
     let whole : cs ≡ xs ++ c ∷ rest =
-        sym (take-append-drop n cs) ∙ ap (λ (a : List ℕ). a ++ drop n cs) (sym t ∙ same_map xs)
-        ∙ ap (λ (a : List ℕ). xs ++ a) (drop-cons cs n c h.0 ∙ ap (λ (d : ℕ). d ∷ rest) (sym h.1)) in
+    sym (take-append-drop n cs) ∙ ap (λ (a : List ℕ). a ++ drop n cs) (sym t ∙ same_map xs)
+    ∙ ap (λ (a : List ℕ). xs ++ a) (drop-cons cs n c h.0 ∙ ap (λ (d : ℕ). d ∷ rest) (sym h.1)) in
     ap (λ (a : List ℕ). 34 ∷ (a ++ 34 ∷ [])) (u ∙ ap (flat_map char_text) whole ∙ flat_map-append char_text xs (c ∷ rest))
     ∙ ap (λ (a : List ℕ). 34 ∷ a) (append_assoc (flat_map char_text xs) (char_text c ++ flat_map char_text rest) (34 ∷ [])
     ∙ ap (λ (a : List ℕ). flat_map char_text xs ++ a) (append_assoc (char_text c) (flat_map char_text rest) (34 ∷ [])))

@@ -1,8 +1,8 @@
 -- Structs and lists that stand open, and what ends them.
-use Rattle.std.specs.Prelude.{ℕ, zero, suc, List, [], ◌∷◌, ◌++◌, Bool, true, false, cond, map, Option, Some, None}
+use Rattle.std.specs.Prelude.{ℕ, suc, List, [], ◌∷◌, ◌++◌, Bool, true, false, cond, map}
 use Rattle.json_text.specs.Json.{list, object, Items, no_items, item, Members, no_members, member}
 use Rattle.json_text.specs.Units.{units_of}
-use Rattle.oxc_estree.specs.Out.{Out, Flags, Part, key, index, Meaning, wrote, begun_struct, begun_field, ended_field, ended_struct, begun_list, begun_element, ended_list, is_zero}
+use Rattle.oxc_estree.specs.Out.{Out, Part, key, index, Meaning, wrote, begun_struct, begun_field, ended_field, ended_struct, begun_list, begun_element, ended_list, is_zero}
 
 -- a key, as the bytes of its text, and what stands there
 pub record Field : Type 0 where

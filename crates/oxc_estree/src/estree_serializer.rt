@@ -45,10 +45,9 @@ impl<C: Config + Drop, F: Formatter + Drop> ESTreeSerializer<C, F> {
     pub fn serialize_with_fixes<T: ESTree>(mut self, node: &T) -> Result<String, AllocError>
         requires records { IsTrue C.records }
         requires nothing_written { IsNew F.IS_COMPACT (⟦<ESTreeSerializer<C, F> as Serializer>⟧.out self) }
-        ensures {
-            IfOk result (λ s. string_bytes s
-                ≡ envelope (start_layout F.IS_COMPACT)
-                    (T.meaning node.now (flags (⟦<ESTreeSerializer<C, F> as Serializer>⟧.out self)))) }
+        ensures { IfOk result (λ s. string_bytes s
+            ≡ envelope (start_layout F.IS_COMPACT)
+            (T.meaning node.now (flags (⟦<ESTreeSerializer<C, F> as Serializer>⟧.out self)))) }
     {
         self.buffer.print_str("{\"node\":\n")?;
         node.serialize(&mut self)?;

@@ -29,33 +29,27 @@ pub trait Formatter {
     /// Opens a level, and appends what stands before its first field or element.
     fn before_first_element(&mut self, buffer: &mut CodeBuffer) -> Result<(), AllocError>
         ensures level { OnOk result (layout self.new ≡ deeper (layout self.old)) }
-        ensures ok {
-            OnOk result (Appends buffer.old buffer.new (new_line (deeper (layout self.old)))) }
-        ensures refused {
-            OnErr result (IsPartlyPrinted buffer.old buffer.new (new_line (deeper (layout self.old)))) };
+        ensures ok { OnOk result (Appends buffer.old buffer.new (new_line (deeper (layout self.old)))) }
+        ensures refused { OnErr result (IsPartlyPrinted buffer.old buffer.new (new_line (deeper (layout self.old)))) };
 
     /// Appends what stands before a later field or element.
     fn before_later_element(&mut self, buffer: &mut CodeBuffer) -> Result<(), AllocError>
         ensures level { OnOk result (layout self.new ≡ layout self.old) }
         ensures ok { OnOk result (Appends buffer.old buffer.new (new_line (layout self.old))) }
-        ensures refused {
-            OnErr result (IsPartlyPrinted buffer.old buffer.new (new_line (layout self.old))) };
+        ensures refused { OnErr result (IsPartlyPrinted buffer.old buffer.new (new_line (layout self.old))) };
 
     /// Appends what stands between a field's colon and its value.
     fn before_field_value(&mut self, buffer: &mut CodeBuffer) -> Result<(), AllocError>
         ensures level { OnOk result (layout self.new ≡ layout self.old) }
         ensures ok { OnOk result (Appends buffer.old buffer.new (space (layout self.old))) }
-        ensures refused {
-            OnErr result (IsPartlyPrinted buffer.old buffer.new (space (layout self.old))) };
+        ensures refused { OnErr result (IsPartlyPrinted buffer.old buffer.new (space (layout self.old))) };
 
     /// Closes a level, and appends what stands before the closing bracket. Where no level is open,
     /// none stays open.
     fn after_last_element(&mut self, buffer: &mut CodeBuffer) -> Result<(), AllocError>
         ensures level { OnOk result (layout self.new ≡ shallower (layout self.old)) }
-        ensures ok {
-            OnOk result (Appends buffer.old buffer.new (new_line (shallower (layout self.old)))) }
-        ensures refused {
-            OnErr result (IsPartlyPrinted buffer.old buffer.new (new_line (shallower (layout self.old)))) };
+        ensures ok { OnOk result (Appends buffer.old buffer.new (new_line (shallower (layout self.old)))) }
+        ensures refused { OnErr result (IsPartlyPrinted buffer.old buffer.new (new_line (shallower (layout self.old)))) };
 
     // A formatter is compact at every time, or at none.
     ghost compact_is: { (f : Self) → is_compact (layout f) ≡ IS_COMPACT };

@@ -11,6 +11,8 @@ mod sequences;
 mod serializer;
 mod strings;
 mod structs;
+#[cfg(test)]
+mod tests;
 mod trace_path;
 mod values;
 

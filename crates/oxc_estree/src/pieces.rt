@@ -22,12 +22,10 @@ pub(crate) fn print_before<F: Formatter>(
     first: bool,
 ) -> Result<(), AllocError>
     ensures level { OnOk result (F.layout formatter.new ≡ layout_inside first (F.layout formatter.old)) }
-    ensures ok {
-        OnOk result (Appends buffer.old buffer.new
-            (before first (layout_inside first (F.layout formatter.old)))) }
-    ensures refused {
-        OnErr result (IsPartlyPrinted buffer.old buffer.new
-            (before first (layout_inside first (F.layout formatter.old)))) }
+    ensures ok { OnOk result (Appends buffer.old buffer.new
+        (before first (layout_inside first (F.layout formatter.old)))) }
+    ensures refused { OnErr result (IsPartlyPrinted buffer.old buffer.new
+        (before first (layout_inside first (F.layout formatter.old)))) }
 {
     if first {
         formatter.before_first_element(buffer)
@@ -44,12 +42,10 @@ pub(crate) fn print_key<F: Formatter>(
     key: &str,
 ) -> Result<(), AllocError>
     ensures level { OnOk result (F.layout formatter.new ≡ F.layout formatter.old) }
-    ensures ok {
-        OnOk result (Appends buffer.old buffer.new
-            (key_text (F.layout formatter.old) (units_of key.now))) }
-    ensures refused {
-        OnErr result (IsPartlyPrinted buffer.old buffer.new
-            (key_text (F.layout formatter.old) (units_of key.now))) }
+    ensures ok { OnOk result (Appends buffer.old buffer.new
+        (key_text (F.layout formatter.old) (units_of key.now))) }
+    ensures refused { OnErr result (IsPartlyPrinted buffer.old buffer.new
+        (key_text (F.layout formatter.old) (units_of key.now))) }
 {
     print_quoted(buffer, key)?;
     buffer.print_ascii_byte(b':')?;
@@ -63,12 +59,10 @@ pub(crate) fn print_closing<F: Formatter>(
     empty: bool,
 ) -> Result<(), AllocError>
     ensures level { OnOk result (F.layout formatter.new ≡ layout_outside empty (F.layout formatter.old)) }
-    ensures ok {
-        OnOk result (Appends buffer.old buffer.new
-            (closing empty (layout_outside empty (F.layout formatter.old)))) }
-    ensures refused {
-        OnErr result (IsPartlyPrinted buffer.old buffer.new
-            (closing empty (layout_outside empty (F.layout formatter.old)))) }
+    ensures ok { OnOk result (Appends buffer.old buffer.new
+        (closing empty (layout_outside empty (F.layout formatter.old)))) }
+    ensures refused { OnErr result (IsPartlyPrinted buffer.old buffer.new
+        (closing empty (layout_outside empty (F.layout formatter.old)))) }
 {
     if empty {
         Ok(())

@@ -22,12 +22,10 @@ pub trait SequenceSerializer {
 
     /// Writes one element more.
     fn serialize_element<T: ESTree>(&mut self, value: &T) -> Result<(), AllocError>
-        ensures ok {
-            OnOk result (state self.new
-                ≡ add_element (state self.old) (T.meaning value.now (flags (state self.old).out))) }
-        ensures refused {
-            OnErr result (IsCutShort (state self.old).out (state self.new).out
-                (add_element (state self.old) (T.meaning value.now (flags (state self.old).out))).out) }
+        ensures ok { OnOk result (state self.new
+            ≡ add_element (state self.old) (T.meaning value.now (flags (state self.old).out))) }
+        ensures refused { OnErr result (IsCutShort (state self.old).out (state self.new).out
+            (add_element (state self.old) (T.meaning value.now (flags (state self.old).out))).out) }
         ensures same_reference { place self.new ≡ place self.old };
 
     /// Ends the list.
@@ -46,14 +44,12 @@ pub struct ESTreeSequenceSerializer<'s, S: Serializer> {
 impl<'s, S: Serializer> ESTreeSequenceSerializer<'s, S> {
     /// Opens a list. It takes no memory, so it succeeds.
     pub fn new(serializer: &'s mut S) -> Result<Self, AllocError>
-        ensures same_reference {
-            IsOkAnd result (λ r.
-                ⟦<ESTreeSequenceSerializer<'s, S> as SequenceSerializer>⟧.place r
-                    ≡ serializer.entry.ghost_name) }
-        ensures ok {
-            IsOkAnd result (λ r.
-                ⟦<ESTreeSequenceSerializer<'s, S> as SequenceSerializer>⟧.state r
-                    ≡ new_list (S.out serializer.old)) }
+        ensures same_reference { IsOkAnd result (λ r.
+            ⟦<ESTreeSequenceSerializer<'s, S> as SequenceSerializer>⟧.place r
+            ≡ serializer.entry.ghost_name) }
+        ensures ok { IsOkAnd result (λ r.
+            ⟦<ESTreeSequenceSerializer<'s, S> as SequenceSerializer>⟧.state r
+            ≡ new_list (S.out serializer.old)) }
     {
         Ok(ESTreeSequenceSerializer { serializer, len: 0 })
     }
@@ -64,7 +60,7 @@ impl<'s, S: Serializer> SequenceSerializer for ESTreeSequenceSerializer<'s, S> {
     ghost use Rattle.oxc_estree.specs.Out.{is_zero};
 
     ghost state = { λ s.
-      record { out = S.out s.serializer.now; begun = not (is_zero s.len); count = s.len } };
+        record { out = S.out s.serializer.now; begun = not (is_zero s.len); count = s.len } };
 
     ghost place = { λ s. s.serializer.ghost_name };
 
@@ -84,11 +80,9 @@ impl<'s, S: Serializer> SequenceSerializer for ESTreeSequenceSerializer<'s, S> {
     }
 
     fn end(self) -> Result<(), AllocError>
-        ensures ok {
-            OnOk result (S.out self.exit.0.now
-                ≡ closed_list (⟦<ESTreeSequenceSerializer<'s, S> as SequenceSerializer>⟧.state self.entry)) }
-        ensures refused {
-            let list = ⟦<ESTreeSequenceSerializer<'s, S> as SequenceSerializer>⟧.state self.entry in
+        ensures ok { OnOk result (S.out self.exit.0.now
+            ≡ closed_list (⟦<ESTreeSequenceSerializer<'s, S> as SequenceSerializer>⟧.state self.entry)) }
+        ensures refused { let list = ⟦<ESTreeSequenceSerializer<'s, S> as SequenceSerializer>⟧.state self.entry in
             OnErr result (IsCutShort list.out (S.out self.exit.0.now) (closed_list list)) }
     {
         let empty = self.len == 0;

@@ -52,27 +52,23 @@ pub trait Serializer {
     /// are recorded. The `value` of a BigInt or RegExp literal calls it, since JSON can't hold it.
     fn record_fix_path(&mut self) -> Result<(), AllocError>
         ensures ok { OnOk result (out self.new ≡ recorded (out self.old)) }
-        ensures refused {
-            OnErr result (IsCutShort (out self.old) (out self.new) (recorded (out self.old))) };
+        ensures refused { OnErr result (IsCutShort (out self.old) (out self.new) (recorded (out self.old))) };
 
     /// The buffer of the text. What is appended to it is appended to the text.
     fn buffer_mut(&mut self) -> &mut CodeBuffer
-        ensures* writes_back {
-            sem 𝓛 (Lends Self.row buffer_row self.entry result (with_buffer self.old)) }
+        ensures* writes_back { sem 𝓛 (Lends Self.row buffer_row self.entry result (with_buffer self.old)) }
         ensures value { result.now.bytes ≡ (out self.old).text };
 
     /// Writes the opening brace of a struct.
     fn begin_struct(&mut self) -> Result<(), AllocError>
         ensures ok { OnOk result (out self.new ≡ begun_struct (out self.old)) }
-        ensures refused {
-            OnErr result (IsCutShort (out self.old) (out self.new) (begun_struct (out self.old))) };
+        ensures refused { OnErr result (IsCutShort (out self.old) (out self.new) (begun_struct (out self.old))) };
 
     /// Writes a key, and steps into its field. `first`: no field stands there yet.
     fn begin_field(&mut self, key: &'static str, first: bool) -> Result<(), AllocError>
         ensures ok { OnOk result (out self.new ≡ begun_field first key.now (out self.old)) }
-        ensures refused {
-            OnErr result
-                (IsCutShort (out self.old) (out self.new) (begun_field first key.now (out self.old))) };
+        ensures refused { OnErr result
+            (IsCutShort (out self.old) (out self.new) (begun_field first key.now (out self.old))) };
 
     /// Steps out of a field.
     fn end_field(&mut self)
@@ -81,22 +77,19 @@ pub trait Serializer {
     /// Writes the closing brace of a struct. `empty`: it has no field.
     fn end_struct(&mut self, empty: bool) -> Result<(), AllocError>
         ensures ok { OnOk result (out self.new ≡ ended_struct empty (out self.old)) }
-        ensures refused {
-            OnErr result
-                (IsCutShort (out self.old) (out self.new) (ended_struct empty (out self.old))) };
+        ensures refused { OnErr result
+            (IsCutShort (out self.old) (out self.new) (ended_struct empty (out self.old))) };
 
     /// Writes the opening bracket of a list.
     fn begin_sequence(&mut self) -> Result<(), AllocError>
         ensures ok { OnOk result (out self.new ≡ begun_list (out self.old)) }
-        ensures refused {
-            OnErr result (IsCutShort (out self.old) (out self.new) (begun_list (out self.old))) };
+        ensures refused { OnErr result (IsCutShort (out self.old) (out self.new) (begun_list (out self.old))) };
 
     /// Steps into the element at this index.
     fn begin_element(&mut self, index: usize) -> Result<(), AllocError>
         ensures ok { OnOk result (out self.new ≡ begun_element index (out self.old)) }
-        ensures refused {
-            OnErr result
-                (IsCutShort (out self.old) (out self.new) (begun_element index (out self.old))) };
+        ensures refused { OnErr result
+            (IsCutShort (out self.old) (out self.new) (begun_element index (out self.old))) };
 
     /// Steps out of an element.
     fn end_element(&mut self)
@@ -105,9 +98,8 @@ pub trait Serializer {
     /// Writes the closing bracket of a list. `empty`: it has no element.
     fn end_sequence(&mut self, empty: bool) -> Result<(), AllocError>
         ensures ok { OnOk result (out self.new ≡ ended_list empty (out self.old)) }
-        ensures refused {
-            OnErr result
-                (IsCutShort (out self.old) (out self.new) (ended_list empty (out self.old))) };
+        ensures refused { OnErr result
+            (IsCutShort (out self.old) (out self.new) (ended_list empty (out self.old))) };
 
     // The formatter says whether the text is compact.
     ghost compact_as_formatter: { IS_COMPACT ≡ Self.Formatter.IS_COMPACT };
@@ -116,8 +108,7 @@ pub trait Serializer {
     ghost compact_is: { (s : Self) → is_compact (out s).layout ≡ IS_COMPACT };
 
     // The buffer holds the text, and nothing else that a serializer goes by.
-    ghost buffer_is_text: {
-        (s : Self) (b : Buffer) → out (with_buffer s b) ≡ with_text (out s) b.bytes };
+    ghost buffer_is_text: { (s : Self) (b : Buffer) → out (with_buffer s b) ≡ with_text (out s) b.bytes };
 }
 
 /// What can be written as JSON.
@@ -132,10 +123,8 @@ pub trait ESTree {
     /// Appends the exact text of the value in the serializer's layout, and records the paths to
     /// what is marked in it.
     fn serialize<S: Serializer>(&self, serializer: &mut S) -> Result<(), AllocError>
-        ensures ok {
-            OnOk result (S.out serializer.new
-                ≡ wrote (S.out serializer.old) (meaning self.now (flags (S.out serializer.old)))) }
-        ensures refused {
-            OnErr result (IsCutShort (S.out serializer.old) (S.out serializer.new)
-                (wrote (S.out serializer.old) (meaning self.now (flags (S.out serializer.old))))) };
+        ensures ok { OnOk result (S.out serializer.new
+            ≡ wrote (S.out serializer.old) (meaning self.now (flags (S.out serializer.old)))) }
+        ensures refused { OnErr result (IsCutShort (S.out serializer.old) (S.out serializer.new)
+            (wrote (S.out serializer.old) (meaning self.now (flags (S.out serializer.old))))) };
 }

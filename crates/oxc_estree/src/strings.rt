@@ -13,8 +13,7 @@ use std::alloc::AllocError;
 /// Appends a text between quotation marks (RFC 8259, section 7).
 pub(crate) fn print_quoted(buffer: &mut CodeBuffer, text: &str) -> Result<(), AllocError>
     ensures ok { OnOk result (Appends buffer.old buffer.new (quoted_units (units_of text.now))) }
-    ensures refused {
-        OnErr result (IsPartlyPrinted buffer.old buffer.new (quoted_units (units_of text.now))) }
+    ensures refused { OnErr result (IsPartlyPrinted buffer.old buffer.new (quoted_units (units_of text.now))) }
 {
     buffer.print_ascii_byte(b'"')?;
     for c in text.chars() {

@@ -36,14 +36,12 @@ pub trait StructSerializer {
 
     /// Writes a field.
     fn serialize_field<T: ESTree>(&mut self, key: &'static str, value: &T) -> Result<(), AllocError>
-        ensures ok {
-            OnOk result (state self.new
-                ≡ add_field (state self.old) key.now
-                    (T.meaning value.now (flags (state self.old).out))) }
-        ensures refused {
-            OnErr result (IsCutShort (state self.old).out (state self.new).out
-                (add_field (state self.old) key.now
-                    (T.meaning value.now (flags (state self.old).out))).out) }
+        ensures ok { OnOk result (state self.new
+            ≡ add_field (state self.old) key.now
+            (T.meaning value.now (flags (state self.old).out))) }
+        ensures refused { OnErr result (IsCutShort (state self.old).out (state self.new).out
+            (add_field (state self.old) key.now
+            (T.meaning value.now (flags (state self.old).out))).out) }
         ensures same_reference { place self.new ≡ place self.old };
 
     /// Ends the struct.
@@ -62,14 +60,12 @@ pub struct ESTreeStructSerializer<'s, S: Serializer> {
 impl<'s, S: Serializer> ESTreeStructSerializer<'s, S> {
     /// Opens a struct. It takes no memory, so it succeeds.
     pub fn new(serializer: &'s mut S) -> Result<Self, AllocError>
-        ensures same_reference {
-            IsOkAnd result (λ r.
-                ⟦<ESTreeStructSerializer<'s, S> as StructSerializer>⟧.place r
-                    ≡ serializer.entry.ghost_name) }
-        ensures ok {
-            IsOkAnd result (λ r.
-                ⟦<ESTreeStructSerializer<'s, S> as StructSerializer>⟧.state r
-                    ≡ new_struct (S.out serializer.old)) }
+        ensures same_reference { IsOkAnd result (λ r.
+            ⟦<ESTreeStructSerializer<'s, S> as StructSerializer>⟧.place r
+            ≡ serializer.entry.ghost_name) }
+        ensures ok { IsOkAnd result (λ r.
+            ⟦<ESTreeStructSerializer<'s, S> as StructSerializer>⟧.state r
+            ≡ new_struct (S.out serializer.old)) }
     {
         Ok(ESTreeStructSerializer {
             serializer,
@@ -86,7 +82,7 @@ impl<'s, S: Serializer> StructSerializer for ESTreeStructSerializer<'s, S> {
     type Formatter = S::Formatter;
 
     ghost state = { λ s.
-      record { out = S.out s.serializer.now; begun = not s.first; first = s.first } };
+        record { out = S.out s.serializer.now; begun = not s.first; first = s.first } };
 
     ghost place = { λ s. s.serializer.ghost_name };
 
@@ -115,11 +111,9 @@ impl<'s, S: Serializer> StructSerializer for ESTreeStructSerializer<'s, S> {
     }
 
     fn end(self) -> Result<(), AllocError>
-        ensures ok {
-            OnOk result (S.out self.exit.0.now
-                ≡ closed (⟦<ESTreeStructSerializer<'s, S> as StructSerializer>⟧.state self.entry)) }
-        ensures refused {
-            let fields = ⟦<ESTreeStructSerializer<'s, S> as StructSerializer>⟧.state self.entry in
+        ensures ok { OnOk result (S.out self.exit.0.now
+            ≡ closed (⟦<ESTreeStructSerializer<'s, S> as StructSerializer>⟧.state self.entry)) }
+        ensures refused { let fields = ⟦<ESTreeStructSerializer<'s, S> as StructSerializer>⟧.state self.entry in
             OnErr result (IsCutShort fields.out (S.out self.exit.0.now) (closed fields)) }
     {
         let empty = self.first;

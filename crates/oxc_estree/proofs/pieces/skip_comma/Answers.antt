@@ -1,4 +1,4 @@
-use Rattle.std.proofs.Common.{arith, ◌∙◌}
+use Rattle.std.proofs.Common.{arith}
 use Rattle.std.proofs.lemmas.Str.Pattern.{strip_prefix_char}
 use Rattle.oxc_estree.proofs.Envelopes.{skipped_comma}
 use Rattle.oxc_estree.proofs.pieces.skip_comma.Goals as goal

@@ -1,4 +1,4 @@
-use Rattle.std.proofs.Common.{refl, ap, ◌∷◌, ℕ, List, []}
+use Rattle.std.proofs.Common.{◌∷◌, []}
 use Rattle.std.proofs.lemmas.Result.{on_err_weaker}
 use Rattle.oxc_estree.proofs.Refusals.{refused_after, refused_at_once}
 use Rattle.oxc_estree.proofs.strings.print_hex_pair.Goals as goal

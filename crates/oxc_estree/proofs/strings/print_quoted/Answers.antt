@@ -1,10 +1,8 @@
-use Rattle.std.proofs.Common.{◌∷◌, ◌++◌, [], refl, drop, length, suc, flat_map}
 use Rattle.std.proofs.lemmas.Iterator.{YieldsList-from_chars}
 use Rattle.std.proofs.lemmas.Iterator.Consumers.{YieldsList-so_far, YieldsList-turn, YieldsList-end}
 use Rattle.std.proofs.lemmas.Str.{scalars-chars}
 use Rattle.std.proofs.lemmas.Result.{on_ok_weaker, on_err_weaker}
 use Rattle.std.specs.Str.{chars}
-use Rattle.json_text.specs.Strings.{char_text}
 use Rattle.json_text.specs.Units.{units_of}
 use Rattle.oxc_estree.proofs.Refusals.{at_err, refused_after, refused_at_once, refused_within, all_printed}
 use Rattle.oxc_estree.proofs.Units.{units_text-chars, quoted_at, quoted_end}

@@ -1,4 +1,4 @@
-use Rattle.std.proofs.Common.{◌/◌, ◌%◌}
+use Rattle.std.proofs.Common.{◌%◌}
 use Rattle.std.proofs.lemmas.Result.{on_err_weaker}
 use Rattle.oxc_estree.specs.Values.{hex_pair}
 use Rattle.oxc_estree.proofs.Escapes.{unit_escape-pairs}

@@ -1,10 +1,7 @@
-use Rattle.std.proofs.Common.{rules, ◌≡◌, refl, map, drop, ◌+◌, ◌∷◌, [], OnOk, OnErr}
+use Rattle.std.proofs.Common.{rules, refl}
 use Rattle.std.proofs.lemmas.Result.{on_ok_weaker, on_err_weaker}
-use Rattle.oxc_estree.specs.Out.{flags, wrote}
-use Rattle.oxc_estree.specs.Open.{list_of}
-use Rattle.oxc_estree.specs.Refused.{IsCutShort}
+use Rattle.oxc_estree.specs.Out.{flags}
 use Rattle.oxc_estree.proofs.Loops.{map_drop-next, map_drop-end}
-use Rattle.oxc_estree.proofs.Refusals.{at_err}
 use Rattle.oxc_estree.proofs.ListUnderWay.{list_begins, element_written, element_refused, list_ended, list_end_refused}
 use Rattle.oxc_estree.proofs.values.JsonSliceESTree.serialize.Goals as goal
 
