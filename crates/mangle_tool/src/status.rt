@@ -1,0 +1,67 @@
+//! How a run of the program ends.
+
+ghost use Rattle.std.specs.Prelude.{◌≡◌};
+ghost use Rattle.mangle_tool.specs.Status.{number_of, line_of};
+
+/// How a run ended.
+#[derive(Clone, Copy, Debug, PartialEq, Eq)]
+pub enum Status {
+    /// The whole answer was written and settled.
+    Done,
+    /// The words of the command line ask for nothing that there is.
+    BadArgument,
+    /// The input is not JSON.
+    NotJson,
+    /// The input passes a limit on its size.
+    TooLarge,
+    /// The input is no tree that is taken.
+    BadTree,
+    /// The scopes of the tree have a fault.
+    BadScope,
+    /// The input has more bytes than are taken.
+    InputTooLong,
+    /// The source failed.
+    ReadFault,
+    /// The sink failed.
+    WriteFault,
+    /// Memory ran out.
+    Memory,
+}
+
+impl Status {
+    /// The exit code of the program. No status has 1.
+    pub fn number(self) -> u8
+        ensures { result ≡ number_of self }
+    {
+        match self {
+            Status::Done => 0,
+            Status::BadArgument => 2,
+            Status::NotJson => 3,
+            Status::TooLarge => 4,
+            Status::BadTree => 5,
+            Status::BadScope => 6,
+            Status::InputTooLong => 7,
+            Status::ReadFault => 8,
+            Status::WriteFault => 9,
+            Status::Memory => 10,
+        }
+    }
+}
+
+/// What the program says of a status on standard error: nothing where it is done.
+pub fn status_line(status: Status) -> &'static str
+    ensures { result.now ≡ line_of status }
+{
+    match status {
+        Status::Done => "",
+        Status::BadArgument => "mangle: bad argument",
+        Status::NotJson => "mangle: not JSON",
+        Status::TooLarge => "mangle: too large",
+        Status::BadTree => "mangle: bad tree",
+        Status::BadScope => "mangle: bad scope",
+        Status::InputTooLong => "mangle: input too long",
+        Status::ReadFault => "mangle: read fault",
+        Status::WriteFault => "mangle: write fault",
+        Status::Memory => "mangle: out of memory",
+    }
+}
