@@ -1,15 +1,18 @@
 -- What told bytes come to over several calls.
-use Rattle.std.proofs.Common.{◌≡◌, ℕ, ◌+◌, List, ◌++◌, Option, Some, None, IfSome, length, length-append, take, drop, sym, ap, ◌∙◌, subst, arith}
+use Rattle.std.proofs.Common.{◌≡◌, ℕ, ◌+◌, ◌-◌, List, ◌++◌, Option, Some, None, IfSome, length, length-append, take, drop, sym, ap, ◌∙◌, subst, arith}
 use Rattle.std.proofs.KnownBytes.{Appends-trans}
+use Rattle.std.proofs.lemmas.List.{take_rest}
 use Rattle.std.proofs.Math.Seq.{take-add, drop-append_seam}
 use Rattle.std.specs.Io.KnownBytes.{Appends, Consumes}
 use Rattle.mangle_tool.specs.Source.{LosesFront}
 
 -- the first n bytes were written, and then the first m of the others
-pub Appends-take_more : (a b c : Option (List ℕ)) (bs : List ℕ) (n m : ℕ)
-    → Appends a b (take n bs) → Appends b c (take m (drop n bs)) → Appends a c (take (n + m) bs)
-Appends-take_more a b c bs n m first more =
-    subst (Appends a c) (sym (take-add n m bs)) (Appends-trans a b c _ _ first more)
+pub appends_take_more : (a b c : Option (List ℕ)) (bs : List ℕ) (n m : ℕ)
+    → Appends a b (take n bs) → Appends b c (take m (take (length bs - n) (drop n bs)))
+    → Appends a c (take (n + m) bs)
+appends_take_more a b c bs n m first more =
+    subst (Appends a c) (sym (take-add n m bs))
+    (Appends-trans a b c _ _ first (rw (take_rest bs n) at more))
 
 -- where the n bytes of bs were read, all but the first n are left
 pub LosesFront-Consumes : (a b : Option (List ℕ)) (bs : List ℕ) (n : ℕ)

@@ -1,7 +1,9 @@
--- The number and the text of each status.
+-- The number and the text of each status, and where one comes from.
 use Rattle.std.specs.Prelude.{ℕ, List, codes}
 use Rattle.mangle_tool.specs.declared.status.Status.{Status}
 use Rattle.mangle_tool.specs.declared.status.Status.TheVariants.{Done, BadArgument, NotJson, TooLarge, BadTree, BadScope, InputTooLong, ReadFault, WriteFault, Memory}
+use Rattle.mangle_tool.specs.declared.read_all.ReadAllError.{ReadAllError}
+use Rattle.mangle_tool.specs.declared.read_all.ReadAllError.TheVariants.{Failed, TooLong, Memory as OutOfMemory}
 
 -- the exit code
 abbrev pub number_of : Status → ℕ
@@ -28,3 +30,9 @@ line_of InputTooLong = codes "mangle: input too long"
 line_of ReadFault = codes "mangle: read fault"
 line_of WriteFault = codes "mangle: write fault"
 line_of Memory = codes "mangle: out of memory"
+
+-- how a run ends that can't read its input
+abbrev pub read_status : ReadAllError → Status
+read_status Failed = ReadFault
+read_status TooLong = InputTooLong
+read_status OutOfMemory = Memory

@@ -3,6 +3,8 @@
 ghost use Rattle.std.specs.Prelude.{◌≡◌};
 ghost use Rattle.mangle_tool.specs.Status.{number_of, line_of};
 
+use crate::read_all::ReadAllError;
+
 /// How a run ended.
 #[derive(Clone, Copy, Debug, PartialEq, Eq)]
 pub enum Status {
@@ -44,6 +46,21 @@ impl Status {
             Status::ReadFault => 8,
             Status::WriteFault => 9,
             Status::Memory => 10,
+        }
+    }
+}
+
+impl From<ReadAllError> for Status {
+    ghost use Rattle.std.specs.Prelude.{◌≡◌};
+    ghost use Rattle.mangle_tool.specs.Status.{read_status};
+
+    ghost from_gives = { λ error status. status ≡ read_status error };
+
+    fn from(error: ReadAllError) -> Self {
+        match error {
+            ReadAllError::Failed => Status::ReadFault,
+            ReadAllError::TooLong => Status::InputTooLong,
+            ReadAllError::Memory => Status::Memory,
         }
     }
 }

@@ -6,5 +6,5 @@ use Rattle.mangle_tool.proofs.read_all.read_all.Goals as goal
 pub returns-then-count-limit-clause-rest : goal.returns-then-count-limit-clause-rest
 returns-then-count-limit-clause-rest g c =
     LosesFront-Consumes _ _ _ _
-    (Consumes-trans _ _ _ _ _ c.loop-bytes.invariant.3 c.in_ok-count.ensures.bytes.0)
+    (Consumes-trans _ _ _ _ _ c.loop-bytes.invariant.consumed c.in_ok-count.ensures.bytes.0)
     (omega (arith, length-append {A = ℕ}, c.in_ok-count.ensures.bound, c.in_ok-count.ensures.given))
