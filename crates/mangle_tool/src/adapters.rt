@@ -1,9 +1,10 @@
 //! std's readers and writers as sources and sinks: the edge to standard input and output.
 
-ghost use Rattle.std.specs.Prelude.{◌≡◌, ◌+◌, ◌-◌, ◌<◌, ◌^◌, false, length, IsErr, MatchResult};
+ghost use Rattle.std.specs.Prelude.{◌≡◌, ◌+◌, ◌-◌, ◌<◌, ◌^◌, false, length, IsErr};
 ghost use Rattle.std.specs.Io.{ReadsAtMost};
 ghost use Rattle.std.specs.Io.KnownBytes.{ReadConsumes};
 ghost use Rattle.mangle_tool.specs.Faults.{CountsFaults};
+ghost use Rattle.mangle_tool.specs.Source.{CountsGiven};
 
 use crate::faults::fault;
 use crate::sink::Sink;
@@ -49,8 +50,7 @@ impl<R: Read> Source for ReaderSource<R> {
         ensures bound { ReadsAtMost result buf.new }
         ensures bytes { ReadConsumes (R.remaining (reader_of self.old))
             (R.remaining (reader_of self.new)) result buf.new }
-        ensures given { MatchResult result (λ n. given_by self.new ≡ given_by self.old + n)
-            (λ _. given_by self.new ≡ given_by self.old) }
+        ensures given { CountsGiven (given_by self.old) (given_by self.new) result }
         ensures faults { CountsFaults (faults_of self.old) (faults_of self.new) result }
 
         // Where a read could carry the bytes given past 2^64 - 1, the reader isn't asked.

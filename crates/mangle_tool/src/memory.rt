@@ -1,9 +1,10 @@
 //! Sources and a sink in memory, which tell their bytes.
 
-ghost use Rattle.std.specs.Prelude.{◌≡◌, ◌+◌, ◌-◌, ◌<◌, ◌≤◌, ◌↔◌, ◌⊎◌, Some, Ok, true, false, ◌&&◌, ◌==◌, [], ◌++◌, length, take, drop, min, Contains, IfOk, IsErr, IsTrue, MatchResult, OnErr, OnOk, vec_len, vec_capacity};
+ghost use Rattle.std.specs.Prelude.{◌≡◌, ◌+◌, ◌-◌, ◌<◌, ◌≤◌, ◌↔◌, ◌⊎◌, Some, Ok, true, false, ◌&&◌, ◌==◌, [], ◌++◌, length, take, drop, min, Contains, IfOk, IsErr, IsTrue, OnErr, OnOk};
 ghost use Rattle.std.specs.Io.{ReadsAtMost, WritesAtMost};
 ghost use Rattle.std.specs.Io.KnownBytes.{Keeps, ReadConsumes, WriteAppends};
 ghost use Rattle.mangle_tool.specs.Faults.{CountsFaults, next_count};
+ghost use Rattle.mangle_tool.specs.Source.{CountsGiven};
 
 use crate::faults::fault;
 use crate::sink::Sink;
@@ -53,8 +54,7 @@ impl<'a> Source for SliceSource<'a> {
         // As every source.
         ensures bound { ReadsAtMost result buf.new }
         ensures bytes { ReadConsumes (Some self.old.left) (Some self.new.left) result buf.new }
-        ensures given { MatchResult result
-            (λ n. self.new.given ≡ self.old.given + n) (λ _. self.new.given ≡ self.old.given) }
+        ensures given { CountsGiven self.old.given self.new.given result }
         ensures faults { CountsFaults 0 0 result }
 
         // It gives as many bytes as the buffer and what is left allow.
@@ -65,18 +65,6 @@ impl<'a> Source for SliceSource<'a> {
         self.given += count;
         Ok(count)
     }
-}
-
-/// Copies the first `count` bytes of `left` to the front of `buf`, and gives the rest.
-fn give<'a>(left: &'a [u8], buf: &mut [u8], count: usize) -> &'a [u8]
-    requires in_left { count ≤ length left.now }
-    requires in_buf { count ≤ length buf.old }
-    ensures front { take count buf.new ≡ take count left.now }
-    ensures rest { result.now ≡ drop count left.now }
-{
-    let (front, rest) = left.split_at(count);
-    buf[..count].copy_from_slice(front);
-    rest
 }
 
 /// A source over bytes that gives them in pieces, and fails in the calls that it is told to.
@@ -106,16 +94,6 @@ impl<'a> Model for MemorySource<'a> {
     } };
 
     ghost invariant = { λ s. (0 < s.piece) × (s.given + length s.left.now < 2 ^ 64) };
-}
-
-/// Numbers a call, and answers whether it is one of those that fail.
-fn fails_next(fails: &[u64], call: &mut u64) -> bool
-    ensures listed { IsTrue result ↔ Contains fails.now call.old }
-    ensures next { call.new ≡ next_count call.old }
-{
-    let listed = fails.contains(call);
-    *call = call.saturating_add(1);
-    listed
 }
 
 impl<'a> MemorySource<'a> {
@@ -154,8 +132,7 @@ impl<'a> Source for MemorySource<'a> {
         // As every source.
         ensures bound { ReadsAtMost result buf.new }
         ensures bytes { ReadConsumes (Some self.old.left) (Some self.new.left) result buf.new }
-        ensures given { MatchResult result
-            (λ n. self.new.given ≡ self.old.given + n) (λ _. self.new.given ≡ self.old.given) }
+        ensures given { CountsGiven self.old.given self.new.given result }
         ensures faults { CountsFaults self.old.faults self.new.faults result }
 
         // It fails in the listed calls alone.
@@ -300,6 +277,7 @@ impl<'f> Sink for MemorySink<'f> {
         if listed || (count == 0 && !piece.is_empty()) {
             return Err(fault(&mut self.faults));
         }
+        // The room was made at the start, so that this is never refused.
         self.held.extend_from_slice(&piece[..count]).unwrap();
         self.settled = self.settled && count == 0;
         Ok(count)
@@ -330,4 +308,26 @@ impl<'f> Sink for MemorySink<'f> {
         self.settled = true;
         Ok(())
     }
+}
+
+/// Copies the first `count` bytes of `left` to the front of `buf`, and gives the rest.
+fn give<'a>(left: &'a [u8], buf: &mut [u8], count: usize) -> &'a [u8]
+    requires in_left { count ≤ length left.now }
+    requires in_buf { count ≤ length buf.old }
+    ensures front { take count buf.new ≡ take count left.now }
+    ensures rest { result.now ≡ drop count left.now }
+{
+    let (front, rest) = left.split_at(count);
+    buf[..count].copy_from_slice(front);
+    rest
+}
+
+/// Numbers a call, and answers whether it is one of those that fail.
+fn fails_next(fails: &[u64], call: &mut u64) -> bool
+    ensures listed { IsTrue result ↔ Contains fails.now call.old }
+    ensures next { call.new ≡ next_count call.old }
+{
+    let listed = fails.contains(call);
+    *call = call.saturating_add(1);
+    listed
 }

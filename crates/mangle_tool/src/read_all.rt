@@ -67,13 +67,13 @@ pub fn read_all<S: Source>(
         → IfSome (S.left source.old) (λ left.
         IsErrOf result ReadAllError.TooLong ↔ (limit < length left)) }
 
-    // A fault is told, and nothing else looks like one.
-    ensures never_falls { S.faults source.old ≤ S.faults source.new }
+    // Where the source had a fault, only `Failed` or `Memory` comes.
+    ensures faults_never_fall { S.faults source.old ≤ S.faults source.new }
     ensures fault_told { S.faults source.old < S.faults source.new
         → (IsErrOf result ReadAllError.Failed ⊎ IsErrOf result ReadAllError.Memory) }
 
-    // What any end leaves: the source has lost what it gave.
-    ensures more { S.given source.old ≤ S.given source.new }
+    // At any end the source has lost what it gave.
+    ensures given_never_falls { S.given source.old ≤ S.given source.new }
     ensures at_most { S.given source.new ≤ S.given source.old + (limit + 1) }
     ensures rest { IfSome (S.left source.old)
         (LosesFront (S.left source.new) (S.given source.new - S.given source.old)) }

@@ -1,10 +1,11 @@
 //! Where bytes come from.
 
-ghost use Rattle.std.specs.Prelude.{◌≡◌, ◌+◌, ℕ, List, MatchResult};
+ghost use Rattle.std.specs.Prelude.{ℕ, List};
 ghost use Rattle.std.specs.declared.option.Option.{Option};
 ghost use Rattle.std.specs.Io.{ReadsAtMost};
 ghost use Rattle.std.specs.Io.KnownBytes.{ReadConsumes};
 ghost use Rattle.mangle_tool.specs.Faults.{CountsFaults};
+ghost use Rattle.mangle_tool.specs.Source.{CountsGiven};
 
 /// A source or a sink failed. Why it did is not told.
 #[derive(Clone, Copy, Debug, PartialEq, Eq)]
@@ -29,7 +30,6 @@ pub trait Source {
     fn read(&mut self, buf: &mut [u8]) -> Result<usize, Failed>
         ensures bound { ReadsAtMost result buf.new }
         ensures bytes { ReadConsumes (left self.old) (left self.new) result buf.new }
-        ensures given { MatchResult result
-            (λ n. given self.new ≡ given self.old + n) (λ _. given self.new ≡ given self.old) }
+        ensures given { CountsGiven (given self.old) (given self.new) result }
         ensures faults { CountsFaults (faults self.old) (faults self.new) result };
 }

@@ -1,7 +1,7 @@
 //! How a run of the program ends.
 
 ghost use Rattle.std.specs.Prelude.{◌≡◌};
-ghost use Rattle.mangle_tool.specs.Status.{number_of, line_of};
+ghost use Rattle.mangle_tool.specs.Status.{line_of, number_of, read_status};
 
 use crate::read_all::ReadAllError;
 
@@ -10,15 +10,15 @@ use crate::read_all::ReadAllError;
 pub enum Status {
     /// The whole answer was written and settled.
     Done,
-    /// The words of the command line ask for nothing that there is.
+    /// The words of the command line are not understood.
     BadArgument,
     /// The input is not JSON.
     NotJson,
-    /// The input passes a limit on its size.
+    /// The input is JSON that passes a limit on its size.
     TooLarge,
-    /// The input is no tree that is taken.
+    /// The input is JSON, but no tree that the mangler takes.
     BadTree,
-    /// The scopes of the tree have a fault.
+    /// The scopes of the tree have a fault, as a name that is declared twice.
     BadScope,
     /// The input has more bytes than are taken.
     InputTooLong,
@@ -51,9 +51,6 @@ impl Status {
 }
 
 impl From<ReadAllError> for Status {
-    ghost use Rattle.std.specs.Prelude.{◌≡◌};
-    ghost use Rattle.mangle_tool.specs.Status.{read_status};
-
     ghost from_gives = { λ error status. status ≡ read_status error };
 
     fn from(error: ReadAllError) -> Self {
