@@ -1,0 +1,9 @@
+pub mod Faults
+pub mod MemorySink
+pub mod MemorySource
+pub mod ReaderSource
+pub mod Sink
+pub mod SliceSource
+pub mod Source
+pub mod Status
+pub mod WriterSink

@@ -1,0 +1,128 @@
+use crate::adapters::{ReaderSource, WriterSink};
+use crate::memory::{MemorySink, MemorySource, SliceSource};
+use crate::read_all::{ReadAllError, read_all};
+use crate::source::Failed;
+use crate::write_whole::write_whole;
+use std::io::{self, Cursor, ErrorKind, Read, Write};
+use std::test::Fail;
+
+/// A text of 27 bytes.
+const TEXT: &[u8] = b"{\"node\":\n{\"type\":\"Program\"}";
+
+#[test]
+fn reads_up_to_the_limit(rt: HostRuntime) {
+    for (text, error) in [
+        ("", None),
+        ("12345678", None),
+        ("123456789", Some(ReadAllError::TooLong)),
+    ] {
+        match read_all(rt.alloc(), &mut SliceSource::new(text.as_bytes()), 8) {
+            Ok(read) => {
+                assert_eq!(rt; error, None, "of {text}");
+                assert_eq!(rt; read.as_slice(), text.as_bytes());
+            }
+            Err(e) => assert_eq!(rt; error, Some(e), "of {text}"),
+        }
+    }
+}
+
+#[test]
+fn source_in_memory_fails_in_the_listed_calls(rt: HostRuntime) -> Result<(), Fail> {
+    // Three calls give 8, 8 and 4 bytes, and the fourth finds the end.
+    let text = "abcdefghijklmnopqrst";
+    for (call, rest) in [
+        (0, "abcdefghijklmnopqrst"),
+        (1, "ijklmnopqrst"),
+        (2, "qrst"),
+        (3, ""),
+    ] {
+        let fails = [call];
+        let mut source = MemorySource::new(text.as_bytes(), 8, &fails);
+        let failed = read_all(rt.alloc(), &mut source, 100);
+        assert_eq!(rt; failed.err(), Some(ReadAllError::Failed), "in call {call}");
+        let read = read_all(rt.alloc(), &mut source, 100)?;
+        assert_eq!(rt; read.as_slice(), rest.as_bytes(), "after call {call}");
+    }
+    let mut source = MemorySource::new(text.as_bytes(), 8, &[4]);
+    let read = read_all(rt.alloc(), &mut source, 100)?;
+    assert_eq!(rt; read.as_slice(), text.as_bytes());
+    Ok(())
+}
+
+#[test]
+fn sink_in_memory_fails_in_the_listed_calls_and_where_it_is_full(
+    rt: HostRuntime,
+) -> Result<(), Fail> {
+    // Two writes take 16 and 11 bytes, and the third call settles them.
+    for (room, call, written, held) in [
+        (100, 3, Ok(()), "{\"node\":\n{\"type\":\"Program\"}"),
+        (100, 0, Err(Failed), ""),
+        (100, 1, Err(Failed), "{\"node\":\n{\"type\""),
+        (100, 2, Err(Failed), "{\"node\":\n{\"type\":\"Program\"}"),
+        (9, 3, Err(Failed), "{\"node\":\n"),
+    ] {
+        let fails = [call];
+        let mut sink = MemorySink::with_room(rt.alloc(), room, 16, &fails)?;
+        assert_eq!(rt;
+            write_whole(&mut sink, TEXT),
+            written,
+            "room {room}, call {call}"
+        );
+        assert_eq!(rt; sink.bytes(), held.as_bytes(), "room {room}, call {call}");
+    }
+    Ok(())
+}
+
+/// Gives `a`, fails, and then gives `b` before its end.
+#[derive(Drop)]
+struct Stumbling {
+    calls: u8,
+}
+
+impl Read for Stumbling {
+    fn read(&mut self, buf: &mut [u8]) -> io::Result<usize> {
+        let call = self.calls;
+        self.calls = call.saturating_add(1);
+        let byte = match call {
+            0 => b'a',
+            1 => return Err(io::Error::from(ErrorKind::Interrupted)),
+            2 => b'b',
+            _ => return Ok(0),
+        };
+        match buf.first_mut() {
+            Some(first) => {
+                *first = byte;
+                Ok(1)
+            }
+            None => Ok(0),
+        }
+    }
+}
+
+#[test]
+fn reader_is_a_source(rt: HostRuntime) -> Result<(), Fail> {
+    let mut source = ReaderSource::new(Cursor::new(TEXT));
+    let read = read_all(rt.alloc(), &mut source, 100)?;
+    assert_eq!(rt; read.as_slice(), TEXT);
+
+    let mut source = ReaderSource::new(Stumbling { calls: 0 });
+    let failed = read_all(rt.alloc(), &mut source, 100);
+    assert_eq!(rt; failed.err(), Some(ReadAllError::Failed));
+    let rest = read_all(rt.alloc(), &mut source, 100)?;
+    assert_eq!(rt; rest.as_slice(), b"b".as_slice());
+    Ok(())
+}
+
+#[test]
+fn writer_is_a_sink(rt: HostRuntime) -> Result<(), Fail> {
+    let mut written = Vec::new(rt.alloc());
+    write_whole(&mut WriterSink::new(&mut written), TEXT)?;
+    assert_eq!(rt; written.as_slice(), TEXT);
+
+    // A writer that takes no more bytes is a fault.
+    let mut room = [0; 9];
+    let outcome = write_whole(&mut WriterSink::new(room.as_mut_slice()), TEXT);
+    assert_eq!(rt; outcome, Err(Failed));
+    assert_eq!(rt; room.as_slice(), b"{\"node\":\n".as_slice());
+    Ok(())
+}
