@@ -1,1 +1,2 @@
 pub mod CodeBuffer
+pub mod InlineString

@@ -41,7 +41,7 @@ impl Model for CodeBuffer {
       bytes = string_bytes b.text;
       indent_char = b.indent_char;
       indent_width = b.indent_width;
-      capacity = string_capacity b.text
+      capacity = string_capacity b.text;
     } };
 }
 

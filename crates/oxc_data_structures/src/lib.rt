@@ -2,3 +2,4 @@
 #![tactic(auto)]
 
 pub mod code_buffer;
+pub mod inline_string;
