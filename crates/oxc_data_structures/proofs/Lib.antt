@@ -1,1 +1,2 @@
 pub mod InlineStringLemmas
+pub mod TextLemmas

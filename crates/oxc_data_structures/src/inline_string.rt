@@ -23,12 +23,13 @@ pub trait UnsignedInt: Copy + Eq {
     /// Zero.
     const ZERO: Self;
 
-    /// The greatest number of this type.
+    /// The greatest number of this type, as a `usize`.
     const MAX_USIZE: usize;
 
     /// The number, as a `usize`.
     fn to_usize(self) -> usize
-        ensures { result ≡ number self };
+        ensures number { result ≡ number self }
+        ensures in_range { result ≤ MAX_USIZE };
 
     /// The number of this type that is `n`.
     fn from_usize(n: usize) -> Self
