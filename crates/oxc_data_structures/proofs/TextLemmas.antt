@@ -8,6 +8,7 @@ use Rattle.std.specs.Iterator.{Yields, SkipsThenYields}
 use Rattle.std.specs.Str.{chars, IsUtf8, IsCharBoundary}
 use Rattle.std.specs.Str.Iter.{chars_rest, chars_steps_back}
 use Rattle.std.specs.declared.str.Chars.{Chars}
+use Rattle.oxc_data_structures.proofs.ListLemmas.{slice_get-append_seam}
 use borrow.Author.Tests.{ltb-true}
 use lib.Utf8.{encode, encodes, scalars, next}
 
@@ -62,11 +63,6 @@ chars-Yields_back (x ∷ xs) s t u (j, step, more) =
     let b = before_last (chars_rest s) (chars_rest j) x u step in
     let h = chars-Yields_back xs j t b.0 more in
     (h.0, ap reverse b.1 ∙ reverse-append (chars (chars_rest j)) (x ∷ []) ∙ ap (λ es. x ∷ es) h.1)
-
--- the first element of the second list is at the first one's length
-pub slice_get-append_seam : (xs ys : List ℕ) (y : ℕ) → slice_get (xs ++ y ∷ ys) (length xs) ≡ Some y
-slice_get-append_seam [] ys y = refl
-slice_get-append_seam (x ∷ xs) ys y = slice_get-append_seam xs ys y
 
 -- the character that is read after n are passed over from the back
 pub nth_char_back : (n : ℕ) (r : Option ℕ) (s t : Chars) → IsUtf8 (chars_rest s) → SkipsThenYields chars_steps_back s n r t

@@ -75,7 +75,7 @@ impl<T> NonEmptyStack<T> {
         ensures room { IfOk result (λ s. capacity ≤ s.capacity) }
     {
         let mut items = Vec::with_capacity(alloc, capacity)?;
-        items.push(initial_value)?;
+        items.push_reserved(initial_value);
         Ok(NonEmptyStack { items })
     }
 
