@@ -1,11 +1,12 @@
 -- How the parts of a `SparseStack` follow its entries.
 use Rattle.std.proofs.Common.{◌≡◌, ℕ, zero, suc, ◌+◌, ◌-◌, ◌<◌, ◌≤◌, Bool, true, false, cond, List, [], ◌∷◌, ◌++◌, length, get_or, set, take, drop, map, Option, Some, None, refl, sym, ap, ◌∙◌, subst, arith}
-use Rattle.std.proofs.lemmas.List.{length-append, length-map, length-set, map-append, same_from_push, get_or_at, set_at, nil_from_length, append-nil, get_or_read}
+use Rattle.std.proofs.lemmas.List.{length-append, length-map, length-set, map-append, same_from_push, get_or_at, set_at, nil_from_length, append-nil, get_or_read, get_or-set_same, set-get_or, set-set}
 use Rattle.std.proofs.lemmas.List.Elements.{filter_map-append}
+use Rattle.std.proofs.lemmas.Option.{slice_get_read}
 use Rattle.std.specs.Prelude.{slice_get, is_some, IsSome}
 use Rattle.std.specs.Option.{option_to_list}
 use Rattle.oxc_data_structures.proofs.ListLemmas.{get_or-at_last, get_or-last, slice_get-last, set-last, split_last}
-use Rattle.oxc_data_structures.specs.SparseStack.{IsStored, entries_of, filled_values}
+use Rattle.oxc_data_structures.specs.SparseStack.{Entries, FillsTop, IsStored, entries_of, filled_values, top, with_top}
 
 module _ {T : Type 0} where
   -- the marks and the values are those of these entries
@@ -153,15 +154,15 @@ module _ {T : Type 0} where
   entry_by_parts : (items below : List (Option T)) (entry : Option T) (marks : List Bool) (values : List T)
       → items ≡ below ++ entry ∷ [] → marks ≡ map is_some below ++ is_some entry ∷ []
       → values ≡ filled_values below ++ option_to_list entry
-      → slice_get items (length items - 1) ≡ Some (cond (get_or marks (length marks - 1) false) (slice_get values (length values - 1)) None)
+      → get_or items (length items - 1) None ≡ cond (get_or marks (length marks - 1) false) (slice_get values (length values - 1)) None
   entry_by_parts items below entry marks values e m v =
-      rw (e, slice_get-last below entry, m, get_or-last (map is_some below) (is_some entry) false, v)
-      (ap Some (value_of (filled_values below) entry))
+      rw (e, get_or-last below entry None, m, get_or-last (map is_some below) (is_some entry) false, v)
+      (value_of (filled_values below) entry)
 
   -- the top entry, by the last mark and the last value
   pub top_entry : (marks : List Bool) (values : List T) → IsStored marks values
-      → slice_get (entries_of marks values) (length (entries_of marks values) - 1)
-      ≡ Some (cond (get_or marks (length marks - 1) false) (slice_get values (length values - 1)) None)
+      → get_or (entries_of marks values) (length (entries_of marks values) - 1) None
+      ≡ cond (get_or marks (length marks - 1) false) (slice_get values (length values - 1)) None
   top_entry marks values h =
       let t = top_of marks values h in
       entry_by_parts (entries_of marks values) t.below t.entry marks values t.items t.marks_are t.values_are
@@ -174,7 +175,7 @@ module _ {T : Type 0} where
     pub stored : IsStored (set marks (length marks - 1) false) values'
     pub items : entries_of (set marks (length marks - 1) false) values'
       ≡ set (entries_of marks values) (length (entries_of marks values) - 1) None
-    pub value : Some entry ≡ slice_get (entries_of marks values) (length (entries_of marks values) - 1)
+    pub value : entry ≡ get_or (entries_of marks values) (length (entries_of marks values) - 1) None
 
   taken_by_parts : (items below : List (Option T)) (entry entry' : Option T) (marks : List Bool) (values values' : List T)
       → entries_of marks values ≡ items → items ≡ below ++ entry ∷ [] → marks ≡ map is_some below ++ is_some entry ∷ []
@@ -192,7 +193,7 @@ module _ {T : Type 0} where
         items =
           entries_of-parts (below ++ None ∷ []) _ values' parts
           ∙ sym (rw (is, e) (set-last below entry None));
-        value = rw (is, e, slice_get-last below entry) (ap Some (sym vs.1));
+        value = rw (is, e, get_or-last below entry None) (sym vs.1);
       }
 
   -- the top entry's value was taken out of a filled entry
@@ -259,6 +260,103 @@ module _ {T : Type 0} where
         rw (e, set-last below (Some x) (Some value), m, v, set-last (filled_values below) x value)
         (entries_of-parts (below ++ Some value ∷ []) _ _
          (IsPartsOf-push below (map is_some below) (filled_values below) (Some value) (own_parts below)))
+
+  -- the top entry holds the last value where it is filled
+  pub kept_top : (marks : List Bool) (values : List T) → IsStored marks values → get_or marks (length marks - 1) false ≡ true
+      → (value : T) × (get_or (entries_of marks values) (length (entries_of marks values) - 1) None ≡ Some value)
+  kept_top marks values h filled =
+      let e = top_entry marks values h ∙ ap (λ b. cond b (slice_get values (length values - 1)) None) filled in
+      let r = last_value values (values_some marks values h filled) in
+      (r.0, e ∙ r.1)
+    where
+      last_of : (vs front : List T) (last : T) → vs ≡ front ++ last ∷ [] → slice_get vs (length vs - 1) ≡ Some last
+      last_of vs front last e = rw e (slice_get-last front last)
+
+      last_value : (vs : List T) → 0 < length vs → (value : T) × (slice_get vs (length vs - 1) ≡ Some value)
+      last_value vs some = let s = split_last vs some in (s.1, last_of vs s.0 s.1 s.2)
+
+  -- a stack whose top entry is filled has it filled
+  pub FillsTop-kept : (s : Entries T) (made : T → Type 0) (value : T) → top s ≡ Some value → FillsTop s s made value
+  FillsTop-kept s made value e = record {
+    becomes = record {
+      entries = sym (ap (λ entry. set s.items (length s.items - 1) entry) (sym e) ∙ set-get_or s.items (length s.items - 1) None);
+      total_capacity = omega arith;
+      filled_capacity = omega arith;
+    };
+    value_is = rw e refl;
+  }
+
+  -- the other way round
+  pub record IsFilledTop (marks : List Bool) (values : List T) (value : T) : Type 0 where
+    pub filled : get_or marks (length marks - 1) false ≡ true
+    pub value_is : slice_get values (length values - 1) ≡ Some value
+
+  pub filled_top : (marks : List Bool) (values : List T) (value : T) → IsStored marks values
+      → get_or (entries_of marks values) (length (entries_of marks values) - 1) None ≡ Some value
+      → IsFilledTop marks values value
+  filled_top marks values value h e = by_mark (get_or marks (length marks - 1) false) (sym (top_entry marks values h) ∙ e) refl
+    where
+      by_mark : (b : Bool) → cond b (slice_get values (length values - 1)) None ≡ Some value
+        → get_or marks (length marks - 1) false ≡ b → IsFilledTop marks values value
+      by_mark true e is = record { filled = is; value_is = e }
+      by_mark false e is = absurd (cc)
+
+  -- a stack's parts, where its top entry was just filled
+  pub IsFilledTop-from_fills : (marks : List Bool) (values : List T) (old new : Entries T) (made : T → Type 0) (value : T)
+      → IsStored marks values → entries_of marks values ≡ new.items → FillsTop old new made value
+      → IsFilledTop marks values value
+  IsFilledTop-from_fills marks values old new made value h is f =
+      filled_top marks values value h
+      (rw (is, f.becomes.entries, length-set old.items (length old.items - 1) (Some value))
+       (get_or-set_same old.items (length old.items - 1) (Some value) None
+        (omega (arith, length-entries_of marks values h, h.not_empty, ap length (is ∙ f.becomes.entries), length-set old.items (length old.items - 1) (Some value)))))
+
+  -- the last value, as it was read
+  pub value_read : (marks : List Bool) (values : List T) (value : T) (n : ℕ) (read : T) → IsStored marks values
+      → IsFilledTop marks values value → n ≡ length values → read ≡ get_or values (n - 1) read → read ≡ value
+  value_read marks values value n read h f len e =
+      let some : 0 < length values = values_some marks values h f.filled in
+      let r : slice_get values (n - 1) ≡ Some read = slice_get_read values (length values) (n - 1) read refl (omega arith) e in
+      let same : slice_get values (length values - 1) ≡ slice_get values (n - 1) = ap (λ k. slice_get values (k - 1)) (sym len) in
+      cc (r, same, f.value_is)
+
+  -- another value for a top entry that was just filled
+  pub with_top-filled : (old new : Entries T) (made : T → Type 0) (value other : T) → FillsTop old new made value
+      → with_top new (Some other) ≡ with_top old (Some other)
+  with_top-filled old new made value other f =
+      rw (f.becomes.entries, length-set old.items (length old.items - 1) (Some value)) (set-set old.items (length old.items - 1) (Some value) (Some other))
+
+  -- the top entry, which was `None`, was filled
+  pub record IsFilledIn (marks : List Bool) (values : List T) (value : T) : Type 0 where
+    pub stored : IsStored (set marks (length marks - 1) true) (values ++ value ∷ [])
+    pub items : entries_of (set marks (length marks - 1) true) (values ++ value ∷ [])
+      ≡ set (entries_of marks values) (length (entries_of marks values) - 1) (Some value)
+    pub was_absent : get_or (entries_of marks values) (length (entries_of marks values) - 1) None ≡ None
+
+  filled_in_by_parts : (items below : List (Option T)) (entry : Option T) (marks : List Bool) (values : List T) (value : T)
+      → entries_of marks values ≡ items → items ≡ below ++ entry ∷ [] → marks ≡ map is_some below ++ is_some entry ∷ []
+      → values ≡ filled_values below ++ option_to_list entry → is_some entry ≡ false → IsFilledIn marks values value
+  filled_in_by_parts items below (Some v) marks values value is e m vs absent = absurd (cc)
+  filled_in_by_parts items below None marks values value is e m vs absent =
+      let marks' : set marks (length marks - 1) true ≡ map is_some below ++ true ∷ [] =
+        rw m (set-last (map is_some below) false true) in
+      let parts : IsPartsOf (below ++ Some value ∷ []) (set marks (length marks - 1) true) (values ++ value ∷ []) =
+        rw (marks', vs, append-nil (filled_values below))
+        (IsPartsOf-push below (map is_some below) (filled_values below) (Some value) (own_parts below)) in
+      record {
+        stored = IsStored-from_parts (below ++ Some value ∷ []) _ _ parts (omega (arith, length-append below (Some value ∷ [])));
+        items =
+          entries_of-parts (below ++ Some value ∷ []) _ _ parts
+          ∙ sym (rw (is, e) (set-last below None (Some value)));
+        was_absent = rw (is, e) (get_or-last below None None);
+      }
+
+  pub filled_in : (marks : List Bool) (values : List T) (value : T) → IsStored marks values
+      → get_or marks (length marks - 1) false ≡ false → IsFilledIn marks values value
+  filled_in marks values value h absent =
+      let t = top_of marks values h in
+      filled_in_by_parts (entries_of marks values) t.below t.entry marks values value refl t.items t.marks_are t.values_are
+      (sym (get_or-at_last (map is_some t.below) (is_some t.entry) false marks t.marks_are) ∙ absent)
 
 -- the last mark, as it was read
 pub mark_read : (marks : List Bool) (n : ℕ) (mark known : Bool) → n ≡ length marks → 0 < length marks

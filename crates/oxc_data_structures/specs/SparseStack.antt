@@ -1,5 +1,5 @@
 -- What a `SparseStack` is to a contract.
-use Rattle.std.specs.Prelude.{◌≡◌, ℕ, ◌<◌, ◌≤◌, Bool, true, false, List, [], ◌∷◌, ◌++◌, length, take, drop, map, slice_set, Option, Some, None, is_some}
+use Rattle.std.specs.Prelude.{◌≡◌, ℕ, ◌<◌, ◌≤◌, Bool, true, false, List, [], ◌∷◌, ◌++◌, ◌-◌, length, take, drop, map, slice_index_or, slice_set, MatchOption, Option, Some, None, is_some}
 use Rattle.std.specs.List.{filter_map}
 
 -- its entries, the top one last, and how many entries and how many filled ones it has room for
@@ -13,6 +13,26 @@ pub record Becomes {T : Type 0} (old new : Entries T) (items : List (Option T)) 
   pub entries : new.items ≡ items
   pub total_capacity : old.total_capacity ≤ new.total_capacity
   pub filled_capacity : old.filled_capacity ≤ new.filled_capacity
+
+-- the bottom entry and the top one
+abbrev pub bottom : {T : Type 0} → Entries T → Option T
+bottom s = slice_index_or s.items 0 None
+
+abbrev pub top : {T : Type 0} → Entries T → Option T
+top s = slice_index_or s.items (length s.items - 1) None
+
+-- the stack with another top entry
+abbrev pub with_top : {T : Type 0} → Entries T → Option T → List (Option T)
+with_top s entry = slice_set s.items (length s.items - 1) entry
+
+-- the value is the one that the entry has, or else one that could be made
+abbrev pub IsKeptOrMade : {T : Type 0} → Option T → (T → Type 0) → T → Type 0
+IsKeptOrMade entry made value = MatchOption entry (made value) (λ kept. value ≡ kept)
+
+-- the top entry is filled, with the value that it had or else one that could be made
+pub record FillsTop {T : Type 0} (old new : Entries T) (made : T → Type 0) (value : T) : Type 0 where
+  pub becomes : Becomes old new (with_top old (Some value))
+  pub value_is : IsKeptOrMade (top old) made value
 
 -- the values of the filled entries, in order
 abbrev pub filled_values : {T : Type 0} → List (Option T) → List T

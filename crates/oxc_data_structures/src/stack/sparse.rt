@@ -37,8 +37,8 @@ impl<T> Model for SparseStack<T> {
 }
 
 impl<T> SparseStack<T> {
-    ghost use Rattle.oxc_data_structures.specs.SparseStack.{Becomes, filled_values};
-    ghost use Rattle.oxc_data_structures.specs.SparseStackLends.{LendsEntry, LendsValues};
+    ghost use Rattle.oxc_data_structures.specs.SparseStack.{Becomes, FillsTop, IsKeptOrMade, bottom, filled_values, top, with_top};
+    ghost use Rattle.oxc_data_structures.specs.SparseStackLends.{FillsTopAs, LendsEntry, LendsTop, LendsValues};
 
     /// A stack of one entry, which is `None`.
     pub fn new(alloc: Global) -> Result<Self, AllocError>
@@ -108,7 +108,7 @@ impl<T> SparseStack<T> {
 
     /// The bottom entry's value. `None` where that entry is.
     pub fn first(&self) -> Option<&T>
-        ensures { Some (option_copied result) ≡ slice_get self.now.items 0 }
+        ensures { option_copied result ≡ bottom self.now }
     {
         if self.has_values[0] {
             self.values.first()
@@ -120,7 +120,7 @@ impl<T> SparseStack<T> {
     /// The bottom entry's value, to be changed. `None` where that entry is.
     pub fn first_mut(&mut self) -> Option<&mut T>
         ensures* writes_back { sem 𝓛 (LendsEntry T.row self.entry 0 result) }
-        ensures value { Some (option_copied_mut result) ≡ slice_get self.old.items 0 }
+        ensures value { option_copied_mut result ≡ bottom self.old }
     {
         if self.has_values[0] {
             self.values.first_mut()
@@ -131,7 +131,7 @@ impl<T> SparseStack<T> {
 
     /// The top entry's value. `None` where that entry is.
     pub fn last(&self) -> Option<&T>
-        ensures { Some (option_copied result) ≡ slice_get self.now.items (length self.now.items - 1) }
+        ensures { option_copied result ≡ top self.now }
     {
         if self.has_values[self.has_values.len() - 1] {
             self.values.last()
@@ -143,8 +143,7 @@ impl<T> SparseStack<T> {
     /// The top entry's value, to be changed. `None` where that entry is.
     pub fn last_mut(&mut self) -> Option<&mut T>
         ensures* writes_back { sem 𝓛 (LendsEntry T.row self.entry (length self.old.items - 1) result) }
-        ensures value { Some (option_copied_mut result)
-          ≡ slice_get self.old.items (length self.old.items - 1) }
+        ensures value { option_copied_mut result ≡ top self.old }
     {
         if self.has_values[self.has_values.len() - 1] {
             self.values.last_mut()
@@ -155,8 +154,8 @@ impl<T> SparseStack<T> {
 
     /// Takes the top entry's value out, which leaves that entry `None`.
     pub fn take_last(&mut self) -> Option<T>
-        ensures value { Some result ≡ slice_get self.old.items (length self.old.items - 1) }
-        ensures items { self.new.items ≡ slice_set self.old.items (length self.old.items - 1) None }
+        ensures value { result ≡ top self.old }
+        ensures items { self.new.items ≡ with_top self.old None }
         ensures total_capacity { self.new.total_capacity ≡ self.old.total_capacity }
         ensures filled_capacity { self.new.filled_capacity ≡ self.old.filled_capacity }
     {
@@ -167,6 +166,57 @@ impl<T> SparseStack<T> {
         } else {
             None
         }
+    }
+
+    /// The top entry's value, which `init` makes first where that entry is `None`.
+    ///
+    /// It makes room first: where that is refused, `init` isn't called.
+    pub fn last_or_init<I: FnOnce() -> T>(&mut self, init: I) -> Result<&T, AllocError>
+    where
+        T: Drop,
+        I: Drop,
+        requires { I.IsAlwaysCallable init }
+        ensures* fills { sem 𝓛 (FillsTopAs T.row self.entry (I.post init) result) }
+        ensures value { IfOk result (λ x. IsKeptOrMade (top self.old) (I.post init) x.now) }
+    {
+        self.fill_last(init)?;
+        let last = self.values.len() - 1;
+        Ok(&self.values[last])
+    }
+
+    /// The top entry's value, to be changed, which `init` makes first where that entry is `None`.
+    ///
+    /// It makes room first: where that is refused, `init` isn't called.
+    pub fn last_mut_or_init<I: FnOnce() -> T>(&mut self, init: I) -> Result<&mut T, AllocError>
+    where
+        T: Drop,
+        I: Drop,
+        requires { I.IsAlwaysCallable init }
+        ensures* writes_back { sem 𝓛 (LendsTop T.row self.entry result) }
+        ensures value { IfOk result (λ x. IsKeptOrMade (top self.old) (I.post init) x.now) }
+    {
+        self.fill_last(init)?;
+        let last = self.values.len() - 1;
+        Ok(&mut self.values[last])
+    }
+
+    /// Fills the top entry by `init` where it is `None`, with room made first.
+    fn fill_last<I: FnOnce() -> T>(&mut self, init: I) -> Result<(), AllocError>
+    where
+        T: Drop,
+        I: Drop,
+        requires { I.IsAlwaysCallable init }
+        ensures ok { OnOk result ((value : T) × FillsTop self.old self.new (I.post init) value) }
+        ensures err { OnErr result (Becomes self.old self.new self.old.items) }
+    {
+        let last = self.has_values.len() - 1;
+        if self.has_values[last] {
+            return Ok(());
+        }
+        self.values.reserve(1)?;
+        self.values.push_reserved(init());
+        self.has_values[last] = true;
+        Ok(())
     }
 
     /// How many entries it has.

@@ -17,8 +17,8 @@ returns-then-index g c =
        writes_back = tt;
        value = 
          let some : 0 < length c.self.inside.values.items = values_some _ _ c.self.invariant filled in
-         rw (top_entry _ _ c.self.invariant, filled) (ap Some (option_copied_mut-last _ _ _ c.self.inside.values.ok.0 some
-          (c.last_mut.ensures.variant.1 (omega arith)) c.last_mut.ensures.value))
+         rw (top_entry _ _ c.self.invariant, filled) (option_copied_mut-last _ _ _ c.self.inside.values.ok.0 some
+          (c.last_mut.ensures.variant.1 (omega arith)) c.last_mut.ensures.value)
      })
 
 pub returns-else-index : goal.returns-else-index
