@@ -1,5 +1,5 @@
 -- What a `CodeBuffer` is to a contract.
-use Rattle.std.specs.Prelude.{◌≡◌, ℕ, ◌≤◌, List, ◌++◌}
+use Rattle.std.specs.Prelude.{◌≡◌, ℕ, ◌≤◌, List, [], ◌++◌}
 use Rattle.oxc_data_structures.specs.declared.code_buffer.IndentChar.{IndentChar}
 use Rattle.oxc_data_structures.specs.declared.code_buffer.IndentChar.TheVariants.{Tab, Space}
 
@@ -13,6 +13,12 @@ pub record Buffer : Type 0 where
 abbrev pub indent_byte : IndentChar → ℕ
 indent_byte Tab = 9
 indent_byte Space = 32
+
+-- the buffer is empty, and indents by so many of these characters a level
+pub record IsEmptyWith (buffer : Buffer) (char : IndentChar) (width : ℕ) : Type 0 where
+  pub bytes : buffer.bytes ≡ []
+  pub indent_char : buffer.indent_char ≡ char
+  pub indent_width : buffer.indent_width ≡ width
 
 -- the new buffer indents as the old one, and has no less room
 pub record KeepsSettings (old new : Buffer) : Type 0 where

@@ -1,1 +1,7 @@
 pub mod CodeBuffer
+pub mod InlineString
+pub mod NonEmptyStackLends
+pub mod SparseStack
+pub mod SparseStackLends
+pub mod Stack
+pub mod StackLends

@@ -1,4 +1,8 @@
 //! Data structures that the crates above print and collect with.
 #![tactic(auto)]
 
+pub mod branch_hints;
 pub mod code_buffer;
+pub mod inline_string;
+pub mod stack;
+pub mod str;

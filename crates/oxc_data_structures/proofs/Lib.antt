@@ -1,0 +1,4 @@
+pub mod InlineStringLemmas
+pub mod ListLemmas
+pub mod SparseStackLemmas
+pub mod TextLemmas
