@@ -3,6 +3,7 @@
 #![tactic(auto)]
 
 mod kind;
+mod limits;
 mod node;
 mod rows;
 mod table;
