@@ -15,3 +15,5 @@ pub mod Reading
 pub mod JsonOf
 pub mod Values
 pub mod Limits
+pub mod Readable
+pub mod ReadError

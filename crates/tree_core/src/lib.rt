@@ -5,12 +5,14 @@
 mod kind;
 mod limits;
 mod node;
+mod read;
 mod rows;
 mod table;
 mod text;
 
 pub use kind::{KINDS, Kind};
 pub use node::{Field, FieldList, Node, NodeList};
+pub use read::ReadError;
 pub use rows::{row, row_named};
 pub use table::{
     Class, Column, Declared, Group, Mark, Mode, Opens, Role, Row, Strict, Words, word_list,
