@@ -4,8 +4,10 @@
 
 mod kind;
 mod limits;
+mod literals;
 mod node;
 mod read;
+mod roles;
 mod rows;
 mod table;
 mod text;
