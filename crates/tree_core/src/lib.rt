@@ -9,6 +9,7 @@ mod node;
 mod read;
 mod roles;
 mod rows;
+mod standing;
 mod table;
 mod text;
 
