@@ -1,5 +1,5 @@
 -- A text and its code units give each other back.
-use Rattle.std.proofs.Common.{◌≡◌, ℕ, suc, ◌<◌, ◌≤◌, ◌+◌, ◌-◌, ◌/◌, ◌%◌, ◌⊎◌, ⊎_elim, inl, inr, List, [], ◌∷◌, ◌++◌, get_or, Bool, true, false, not, ◌&&◌, Option, Some, None, is_some, map, flat_map, arith, sym, ap, ap₂, ◌∙◌, refl, subst, encode_utf8, encode_utf8_all, bytes_eq, IsUtf8, IsAscii, chars, true≢false, if◌then◌else◌, lt-ltb, le-ltb}
+use Rattle.std.proofs.Common.{◌≡◌, ℕ, suc, ◌<◌, ◌≤◌, ◌+◌, ◌-◌, ◌/◌, ◌%◌, ◌⊎◌, ⊎_elim, inl, inr, List, [], ◌∷◌, ◌++◌, get_or, Bool, true, false, not, ◌&&◌, Option, Some, None, is_some, map, flat_map, arith, sym, ap, ap₂, ◌∙◌, refl, subst, encode_utf8, encode_utf8_all, bytes_eq, IsUtf8, IsAscii, chars, true≢false, if◌then◌else◌, nat_lt, lt-ltb, le-ltb, ltb-true}
 use Rattle.std.specs.Char.{IsScalar}
 use Rattle.std.specs.Char.Escape.{encode_utf16}
 use Rattle.std.specs.Char.Utf16.{utf16_chars, has_unpaired_surrogate, lone_unit_char, surrogate_pair_char}
@@ -12,7 +12,7 @@ use Rattle.std.proofs.lemmas.Str.{IsUtf8-from_ascii, chars-encodes, chars-IsAsci
 use Rattle.std.proofs.str.Utf16.{IsPair}
 use lib.Utf8.{scalar_cases}
 use Rattle.json_text.specs.HasText.{AreCodeUnits}
-use Rattle.json_text.specs.Units.{units_of, bytes_of, text_of_units}
+use Rattle.json_text.specs.Units.{units_of, bytes_of, text_of_units, are_code_units}
 
 -- ---- one character
 
@@ -76,6 +76,14 @@ spell_all (c ∷ cs) s =
     let b = both _ (all_scalars cs) s in
     spells c (flat_map encode_utf16 cs) (scalar_cases c b.0) ∙ ap (λ (os : List (Option ℕ)). Some c ∷ os) (spell_all cs b.1)
 
+pub are_code_units-AreCodeUnits : (us : List ℕ) → AreCodeUnits us → are_code_units us ≡ true
+are_code_units-AreCodeUnits [] a = refl
+are_code_units-AreCodeUnits (u ∷ us) a = rw (lt-ltb u 65536 a.0) (are_code_units-AreCodeUnits us a.1)
+
+pub AreCodeUnits-are_code_units : (us : List ℕ) → are_code_units us ≡ true → AreCodeUnits us
+AreCodeUnits-are_code_units [] e = tt
+AreCodeUnits-are_code_units (u ∷ us) e = let b = both (nat_lt u 65536) (are_code_units us) e in (ltb-true u 65536 b.0, AreCodeUnits-are_code_units us b.1)
+
 all_paired : (cs : List ℕ) → list_any (λ (o : Option ℕ). not (is_some o)) (map Some cs) ≡ false
 all_paired [] = refl
 all_paired (c ∷ cs) = all_paired cs
@@ -84,13 +92,8 @@ bytes_of-characters : (cs : List ℕ) → bytes_of (map Some cs) ≡ encode_utf8
 bytes_of-characters [] = refl
 bytes_of-characters (c ∷ cs) = ap (λ (bs : List ℕ). encode_utf8 c ++ bs) (bytes_of-characters cs)
 
-text_of_characters : (us cs : List ℕ) → utf16_chars us ≡ map Some cs → text_of_units us ≡ Some (encode_utf8_all cs)
-text_of_characters us cs e = rw (e, all_paired cs, bytes_of-characters cs)
-
--- the code units of a text give it back
-pub text_of_units-units_of : (bs : List ℕ) → IsUtf8 bs → text_of_units (units_of bs) ≡ Some bs
-text_of_units-units_of bs u =
-    text_of_characters (units_of bs) (chars bs) (spell_all (chars bs) (scalars-chars bs u)) ∙ ap Some (encodes-chars bs u)
+text_of_characters : (us cs : List ℕ) → AreCodeUnits us → utf16_chars us ≡ map Some cs → text_of_units us ≡ Some (encode_utf8_all cs)
+text_of_characters us cs a e = rw (are_code_units-AreCodeUnits us a, e, all_paired cs, bytes_of-characters cs)
 
 units_below : (cs : List ℕ) → all_scalars cs ≡ true → AreCodeUnits (flat_map encode_utf16 cs)
 units_below [] s = tt
@@ -100,6 +103,11 @@ units_below (c ∷ cs) s =
 
 pub AreCodeUnits-units_of : (bs : List ℕ) → IsUtf8 bs → AreCodeUnits (units_of bs)
 AreCodeUnits-units_of bs u = units_below (chars bs) (scalars-chars bs u)
+
+-- the code units of a text give it back
+pub text_of_units-units_of : (bs : List ℕ) → IsUtf8 bs → text_of_units (units_of bs) ≡ Some bs
+text_of_units-units_of bs u =
+    text_of_characters (units_of bs) (chars bs) (AreCodeUnits-units_of bs u) (spell_all (chars bs) (scalars-chars bs u)) ∙ ap Some (encodes-chars bs u)
 
 some_same : {A : Type 0} (a b : A) → Some a ≡ Some b → a ≡ b
 some_same a b e = cc
@@ -215,23 +223,30 @@ spelled (u ∷ v ∷ us) a n =
     (λ (o : (IsPair u v) ⊎ (IsStray u v)). ⊎_elim (λ (p : IsPair u v). pair_first u v us p n (λ m. spelled us a.1.1 m)) (λ (s : IsStray u v). stray_first u (v ∷ us) s n) o)
     (unit_kind u v)
 
-text_from : (b : Bool) (t bs : List ℕ) → (if b then None else Some t) ≡ Some bs → (b ≡ false) × (t ≡ bs)
-text_from true t bs e = absurd (cc)
-text_from false t bs e = (refl, cc)
+text_from : (a b : Bool) (t bs : List ℕ) → (if a && not b then Some t else None) ≡ Some bs → (a ≡ true) × (b ≡ false) × (t ≡ bs)
+text_from false b t bs e = absurd (cc)
+text_from true true t bs e = absurd (cc)
+text_from true false t bs e = (refl, refl, cc)
 
--- where code units are a text, its characters
-spelled_text : (us bs : List ℕ) → AreCodeUnits us → text_of_units us ≡ Some bs → (cs : List ℕ) × Spells us cs × (encode_utf8_all cs ≡ bs)
-spelled_text us bs a e =
-    let f = text_from (has_unpaired_surrogate us) (bytes_of (utf16_chars us)) bs e in
-    let s = spelled us a f.0 in
-    (s.0, s.1, some_same _ _ (sym (text_of_characters us s.0 s.1.0) ∙ e))
+-- what has a text is of code units
+pub AreCodeUnits-text_of_units : (us bs : List ℕ) → text_of_units us ≡ Some bs → AreCodeUnits us
+AreCodeUnits-text_of_units us bs e =
+    AreCodeUnits-are_code_units us (text_from (are_code_units us) (has_unpaired_surrogate us) (bytes_of (utf16_chars us)) bs e).0
+
+-- where code units have a text, its characters
+spelled_text : (us bs : List ℕ) → text_of_units us ≡ Some bs → (cs : List ℕ) × Spells us cs × (encode_utf8_all cs ≡ bs)
+spelled_text us bs e =
+    let f = text_from (are_code_units us) (has_unpaired_surrogate us) (bytes_of (utf16_chars us)) bs e in
+    let a = AreCodeUnits-are_code_units us f.0 in
+    let s = spelled us a f.1 in
+    (s.0, s.1, some_same _ _ (sym (text_of_characters us s.0 a s.1.0) ∙ e))
 
 -- code units in which no surrogate stands alone are a text
-pub IsUtf8-text_of_units : (us bs : List ℕ) → AreCodeUnits us → text_of_units us ≡ Some bs → IsUtf8 bs
-IsUtf8-text_of_units us bs a e = let s = spelled_text us bs a e in (s.0, (s.1.1, s.2))
+pub IsUtf8-text_of_units : (us bs : List ℕ) → text_of_units us ≡ Some bs → IsUtf8 bs
+IsUtf8-text_of_units us bs e = let s = spelled_text us bs e in (s.0, (s.1.1, s.2))
 
 -- and that text gives them back
-pub units_of-text_of_units : (us bs : List ℕ) → AreCodeUnits us → text_of_units us ≡ Some bs → units_of bs ≡ us
-units_of-text_of_units us bs a e =
-    let s = spelled_text us bs a e in
+pub units_of-text_of_units : (us bs : List ℕ) → text_of_units us ≡ Some bs → units_of bs ≡ us
+units_of-text_of_units us bs e =
+    let s = spelled_text us bs e in
     ap units_of (sym s.2) ∙ ap (λ (cs : List ℕ). flat_map encode_utf16 cs) (chars-encodes s.0 s.1.1) ∙ s.1.2

@@ -17,3 +17,4 @@ pub mod Values
 pub mod Limits
 pub mod Readable
 pub mod ReadError
+pub mod Laws

@@ -3,6 +3,7 @@
 #![tactic(auto)]
 
 mod kind;
+mod laws;
 mod limits;
 mod literals;
 mod node;
@@ -14,6 +15,7 @@ mod table;
 mod text;
 
 pub use kind::{KINDS, Kind};
+pub use laws::{printed_text_reads, reading_undoes_printing};
 pub use node::{Field, FieldList, Node, NodeList};
 pub use read::ReadError;
 pub use rows::{row, row_named};
