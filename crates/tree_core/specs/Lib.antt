@@ -18,3 +18,4 @@ pub mod Limits
 pub mod Readable
 pub mod ReadError
 pub mod Laws
+pub mod Program
