@@ -14,4 +14,8 @@ pub mod Supported
 pub mod Reading
 pub mod JsonOf
 pub mod Values
+pub mod Limits
+pub mod Readable
+pub mod ReadError
 pub mod Laws
+pub mod Program

@@ -4,14 +4,22 @@
 
 mod kind;
 mod laws;
+mod limits;
+mod literals;
 mod node;
+mod program;
+mod read;
+mod roles;
 mod rows;
+mod standing;
 mod table;
 mod text;
 
 pub use kind::{KINDS, Kind};
 pub use laws::{printed_text_reads, reading_undoes_printing};
 pub use node::{Field, FieldList, Node, NodeList};
+pub use program::{Program, SourceType};
+pub use read::{ReadError, read_tree};
 pub use rows::{row, row_named};
 pub use table::{
     Class, Column, Declared, Group, Mark, Mode, Opens, Role, Row, Strict, Words, word_list,
