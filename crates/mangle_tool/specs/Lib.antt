@@ -1,7 +1,10 @@
+pub mod Answer
 pub mod Faults
+pub mod Input
 pub mod MemorySink
 pub mod MemorySource
 pub mod ReaderSource
+pub mod Run
 pub mod Sink
 pub mod SliceSource
 pub mod Source

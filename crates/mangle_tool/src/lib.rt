@@ -1,10 +1,13 @@
-//! The outside of the mangler: where its input comes from, where its answer goes, and how it ends.
+//! The mangler as a tool: where its input comes from, what it does with it, where the answer goes, and how a
+//! run ends.
 #![tactic(auto)]
 
 pub mod adapters;
+pub mod estree;
 mod faults;
 pub mod memory;
 pub mod read_all;
+pub mod run;
 pub mod sink;
 pub mod source;
 pub mod status;

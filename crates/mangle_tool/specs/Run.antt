@@ -1,0 +1,27 @@
+-- What a run read and wrote.
+use Rattle.std.specs.Prelude.{◌≡◌, ℕ, ◌+◌, List, length, IfSome}
+use Rattle.std.specs.declared.option.Option.{Option}
+use Rattle.std.specs.Io.KnownBytes.{Appends, IsAtEnd}
+use Rattle.mangle_tool.specs.Answer.{IsAnswer, IsCauseOf}
+use Rattle.mangle_tool.specs.declared.estree.MangleError.{MangleError}
+
+-- the input was read: as many bytes as the count of bytes given grew by, and all that were left, where these are
+-- told; the source is at its end then
+pub record HasRead (left_old left_new : Option (List ℕ)) (given_old given_new : ℕ) (input : List ℕ) : Type 0 where
+  pub all : IfSome left_old (λ left. input ≡ left)
+  pub at_end : IsAtEnd left_new
+  pub counted : given_new ≡ given_old + length input
+
+-- the input was read, and its whole answer was written
+pub record HasAnswered (left_old left_new : Option (List ℕ)) (given_old given_new : ℕ) (held_old held_new : Option (List ℕ)) : Type 0 where
+  pub input : List ℕ
+  pub text : List ℕ
+  pub read : HasRead left_old left_new given_old given_new input
+  pub answer : IsAnswer input text
+  pub written : Appends held_old held_new text
+
+-- the input was read, and this is wrong with it
+pub record HasRefused (left_old left_new : Option (List ℕ)) (given_old given_new : ℕ) (e : MangleError) : Type 0 where
+  pub input : List ℕ
+  pub read : HasRead left_old left_new given_old given_new input
+  pub cause : IsCauseOf e input
