@@ -41,7 +41,8 @@ impl From<AllocError> for ReadAllError {
 
 /// All bytes of `source` to its end, at most `limit` of them.
 ///
-/// It takes no more than `limit + 1` bytes: one past the limit shows that there are too many.
+/// It takes no more than `limit + 1` bytes: one past the limit shows that there are too many, and
+/// is `TooLong`. `Failed` comes where the source fails, and `Memory` where memory ran out.
 pub fn read_all<S: Source>(
     alloc: Global,
     source: &mut S,

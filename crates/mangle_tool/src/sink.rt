@@ -10,7 +10,8 @@ use crate::source::Failed;
 
 /// Where bytes go.
 ///
-/// An `Ok` leaves the count of faults; `Failed` comes only where it rose, and appends nothing.
+/// An `Ok` leaves the count of faults. `Failed` comes only where that rose, or stands at its last
+/// value, and appends nothing.
 pub trait Sink {
     /// The bytes held, where the sink tells them. Told bytes stay told.
     ghost held: { Self → Option (List ℕ) };

@@ -13,7 +13,8 @@ pub struct Failed;
 
 /// Where bytes come from.
 ///
-/// An `Ok` leaves the count of faults; `Failed` comes only where it rose, and takes no byte.
+/// An `Ok` leaves the count of faults. `Failed` comes only where that rose, or stands at its last
+/// value, and takes no byte.
 pub trait Source {
     /// The bytes left, where the source tells them. Told bytes stay told.
     ghost left: { Self → Option (List ℕ) };

@@ -10,7 +10,7 @@ use crate::source::Failed;
 
 /// Writes all of `bytes`, and then settles the sink.
 ///
-/// Where it fails, the sink got some first bytes of `bytes`, and nothing is tried after the failure.
+/// Where the sink fails, it got some first bytes of `bytes`, and nothing is tried after that.
 #[tactic(auto, using(crate::proofs::Told::appends_take_more))]
 pub fn write_whole<K: Sink>(sink: &mut K, bytes: &[u8]) -> Result<(), Failed>
     ensures whole { OnOk result (Appends (K.held sink.old) (K.held sink.new) bytes.now) }
