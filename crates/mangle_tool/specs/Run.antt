@@ -3,6 +3,7 @@ use Rattle.std.specs.Prelude.{◌≡◌, ℕ, ◌+◌, List, length, IfSome}
 use Rattle.std.specs.declared.option.Option.{Option}
 use Rattle.std.specs.Io.KnownBytes.{Appends, IsAtEnd}
 use Rattle.mangle_tool.specs.Answer.{IsAnswer, IsCauseOf}
+use Rattle.mangle_tool.specs.Sink.{AppendsPrefix}
 use Rattle.mangle_tool.specs.declared.estree.MangleError.{MangleError}
 
 -- the input was read: as many bytes as the count of bytes given grew by, and all that were left, where these are
@@ -25,3 +26,11 @@ pub record HasRefused (left_old left_new : Option (List ℕ)) (given_old given_n
   pub input : List ℕ
   pub read : HasRead left_old left_new given_old given_new input
   pub cause : IsCauseOf e input
+
+-- the input was read, and a first part of its answer was written
+pub record HasBegun (left_old left_new : Option (List ℕ)) (given_old given_new : ℕ) (held_old held_new : Option (List ℕ)) : Type 0 where
+  pub input : List ℕ
+  pub text : List ℕ
+  pub read : HasRead left_old left_new given_old given_new input
+  pub answer : IsAnswer input text
+  pub written : AppendsPrefix held_old held_new text

@@ -1,6 +1,7 @@
 //! The whole job on bytes: ESTree in JSON in, its answer out.
 
 ghost use Rattle.std.specs.Prelude.{◌≡◌, IfErr, IfOk, string_bytes};
+ghost use Rattle.mangle_tool.specs.declared.estree.MangleError.{MangleError};
 ghost use Rattle.mangle_tool.specs.Answer.{IsAnswer, IsCauseOf};
 
 use oxc_estree::{CompactFormatter, ConfigFixes, ESTreeSerializer};

@@ -1,10 +1,11 @@
 //! The whole program, over any source and sink.
 
-ghost use Rattle.std.specs.Prelude.{◌≡◌, ◌≢◌, ◌+◌, ◌<◌, ◌⊎◌, IsTrue};
+ghost use Rattle.std.specs.Prelude.{◌≡◌, ◌≢◌, ◌+◌, ◌<◌, ◌⊎◌, length, IfSome, IsTrue};
+ghost use Rattle.mangle_tool.specs.declared.estree.MangleError.{MangleError};
 ghost use Rattle.mangle_tool.specs.declared.run.TheConstants.{INPUT_LIMIT};
 ghost use Rattle.mangle_tool.specs.Answer.{refused_status};
 ghost use Rattle.mangle_tool.specs.Faults.{Rose};
-ghost use Rattle.mangle_tool.specs.Run.{HasAnswered, HasRefused};
+ghost use Rattle.mangle_tool.specs.Run.{HasAnswered, HasBegun, HasRefused};
 
 use crate::estree::{MangleError, mangle_estree};
 use crate::read_all::read_all;
@@ -41,6 +42,11 @@ pub fn run<S: Source, K: Sink>(alloc: Global, source: &mut S, sink: &mut K) -> S
         → HasAnswered (S.left source.old) (S.left source.new) (S.given source.old) (S.given source.new)
         (K.held sink.old) (K.held sink.new) }
     ensures settled { result ≡ Status.Done → IsTrue (K.settled sink.new) }
+    ensures no_faults { result ≡ Status.Done
+        → (S.faults source.new ≡ S.faults source.old) × (K.faults sink.new ≡ K.faults sink.old) }
+    ensures begun { result ≡ Status.WriteFault
+        → HasBegun (S.left source.old) (S.left source.new) (S.given source.old) (S.given source.new)
+        (K.held sink.old) (K.held sink.new) }
     ensures refused { (e : MangleError) → result ≡ refused_status e → result ≢ Status.Memory
         → HasRefused (S.left source.old) (S.left source.new) (S.given source.old) (S.given source.new) e }
     ensures untouched { result ≢ Status.Done → result ≢ Status.WriteFault → sink.new ≡ sink.old }
@@ -51,6 +57,10 @@ pub fn run<S: Source, K: Sink>(alloc: Global, source: &mut S, sink: &mut K) -> S
         → (result ≡ Status.ReadFault) ⊎ (result ≡ Status.Memory) }
     ensures too_long { result ≡ Status.InputTooLong
         → S.given source.new ≡ S.given source.old + (INPUT_LIMIT + 1) }
+    ensures too_long_told { result ≢ Status.Memory
+        → ¬ Rose (S.faults source.old) (S.faults source.new)
+        → IfSome (S.left source.old)
+        (λ left. INPUT_LIMIT < length left → result ≡ Status.InputTooLong) }
     ensures write_fault { result ≡ Status.WriteFault → Rose (K.faults sink.old) (K.faults sink.new) }
     ensures write_fault_told { K.faults sink.old < K.faults sink.new → result ≡ Status.WriteFault }
     ensures no_argument { result ≢ Status.BadArgument }

@@ -1,10 +1,18 @@
 use crate::adapters::{ReaderSource, WriterSink};
 use crate::memory::{MemorySink, MemorySource, SliceSource};
 use crate::read_all::{ReadAllError, read_all};
+use crate::run::run;
 use crate::source::Failed;
+use crate::status::Status;
 use crate::write_whole::write_whole;
 use std::io::{self, Cursor, ErrorKind, Read, Write};
 use std::test::Fail;
+
+/// A module with an empty body, as it is read and as it is printed.
+const EMPTY_MODULE: &str = "{\"type\":\"Program\",\"start\":0,\"end\":0,\"body\":[],\"sourceType\":\"module\",\"hashbang\":null}";
+
+/// The answer to it, of 106 bytes.
+const ANSWER: &str = "{\"node\":\n{\"type\":\"Program\",\"start\":0,\"end\":0,\"body\":[],\"sourceType\":\"module\",\"hashbang\":null}\n,\"fixes\":[]}";
 
 /// A text of 27 bytes.
 const TEXT: &[u8] = b"{\"node\":\n{\"type\":\"Program\"}";
@@ -124,5 +132,35 @@ fn writer_is_a_sink(rt: HostRuntime) -> Result<(), Fail> {
     let outcome = write_whole(&mut WriterSink::new(room.as_mut_slice()), TEXT);
     assert_eq!(rt; outcome, Err(Failed));
     assert_eq!(rt; room.as_slice(), b"{\"node\":\n".as_slice());
+    Ok(())
+}
+
+#[test]
+fn runs_end_by_their_input(rt: HostRuntime) -> Result<(), Fail> {
+    for (input, status, written) in [
+        (EMPTY_MODULE, Status::Done, ANSWER),
+        ("{\"type\":", Status::NotJson, ""),
+        ("null", Status::BadTree, ""),
+    ] {
+        let mut source = SliceSource::new(input.as_bytes());
+        let mut sink = MemorySink::with_room(rt.alloc(), 106, 106, &[])?;
+        let ended = run(rt.alloc(), &mut source, &mut sink);
+        assert_eq!(rt; ended, status, "of {input}");
+        assert_eq!(rt; sink.bytes(), written.as_bytes(), "of {input}");
+    }
+    Ok(())
+}
+
+#[test]
+fn runs_end_by_their_faults(rt: HostRuntime) -> Result<(), Fail> {
+    for (read_fails, write_fails, status, written) in [
+        ([2], [9], Status::ReadFault, ""),
+        ([99], [1], Status::WriteFault, "{\"node\":\n{\"type\""),
+    ] {
+        let mut source = MemorySource::new(EMPTY_MODULE.as_bytes(), 8, &read_fails);
+        let mut sink = MemorySink::with_room(rt.alloc(), 106, 16, &write_fails)?;
+        assert_eq!(rt; run(rt.alloc(), &mut source, &mut sink), status);
+        assert_eq!(rt; sink.bytes(), written.as_bytes());
+    }
     Ok(())
 }
