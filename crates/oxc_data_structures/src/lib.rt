@@ -4,5 +4,6 @@
 pub mod branch_hints;
 pub mod code_buffer;
 pub mod inline_string;
+pub mod rope;
 pub mod stack;
 pub mod str;
