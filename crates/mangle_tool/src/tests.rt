@@ -9,10 +9,12 @@ use std::io::{self, Cursor, ErrorKind, Read, Write};
 use std::test::Fail;
 
 /// A module with an empty body, as it is read and as it is printed.
-const EMPTY_MODULE: &str = "{\"type\":\"Program\",\"start\":0,\"end\":0,\"body\":[],\"sourceType\":\"module\",\"hashbang\":null}";
+const EMPTY_MODULE: &str =
+    "{\"type\":\"Program\",\"start\":0,\"end\":0,\"body\":[],\"sourceType\":\"module\",\"hashbang\":null}";
 
 /// The answer to it, of 106 bytes.
-const ANSWER: &str = "{\"node\":\n{\"type\":\"Program\",\"start\":0,\"end\":0,\"body\":[],\"sourceType\":\"module\",\"hashbang\":null}\n,\"fixes\":[]}";
+const ANSWER: &str =
+    "{\"node\":\n{\"type\":\"Program\",\"start\":0,\"end\":0,\"body\":[],\"sourceType\":\"module\",\"hashbang\":null}\n,\"fixes\":[]}";
 
 /// A text of 27 bytes.
 const TEXT: &[u8] = b"{\"node\":\n{\"type\":\"Program\"}";

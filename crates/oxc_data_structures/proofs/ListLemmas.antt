@@ -42,4 +42,4 @@ module _ {X : Type 0} where
   option_copied_mut-last xs None n len some is_some reads = absurd (cc)
   option_copied_mut-last xs (Some x) n len some is_some reads =
       sym (slice_get_read xs (length xs) (length xs - 1) x.now refl (omega arith)
-       (rw len at reads))
+      (rw len at reads))

@@ -13,7 +13,6 @@ pub record IsScanned (text starts : List ℕ) (offset : ℕ) (rest : List ℕ) :
   pub walked : offset + length rest ≡ length text
   pub found : line_starts text ≡ starts ++ starts_behind offset (chars rest)
 
-
 found_step : (starts : List ℕ) (next : ℕ) (later : List ℕ) (b : Bool)
     → starts ++ cond b (next ∷ later) later ≡ cond b (starts ++ next ∷ []) starts ++ later
 found_step starts next later true = sym (append_assoc starts (next ∷ []) later)
@@ -29,8 +28,8 @@ IsScanned-next text starts offset n c rest rest' b h e len is =
       utf8 = IsUtf8-past_char rest rest' c h.utf8 e;
       walked = omega (arith, h.walked, ap length e, length-append (encode c) rest', length-encode c, len);
       found =
-        h.found ∙ ap (λ es. starts ++ starts_behind offset es) cs
-        ∙ rw (is, len) (found_step starts (offset + len_utf8 c) (starts_behind (offset + len_utf8 c) (chars rest')) (ends_line c (chars rest')));
+          h.found ∙ ap (λ es. starts ++ starts_behind offset es) cs
+          ∙ rw (is, len) (found_step starts (offset + len_utf8 c) (starts_behind (offset + len_utf8 c) (chars rest')) (ends_line c (chars rest')));
     }
 
 -- at the end of the text

@@ -60,7 +60,7 @@ module _ {T : Type 0} where
   pub record IsPushed (marks : List Bool) (values : List T) (entry : Option T) : Type 0 where
     pub stored : IsStored (marks ++ is_some entry ∷ []) (values ++ option_to_list entry)
     pub items : entries_of (marks ++ is_some entry ∷ []) (values ++ option_to_list entry)
-      ≡ entries_of marks values ++ entry ∷ []
+        ≡ entries_of marks values ++ entry ∷ []
 
   pub pushed : (marks : List Bool) (values : List T) (entry : Option T) → IsStored marks values → IsPushed marks values entry
   pushed marks values entry h =
@@ -116,7 +116,7 @@ module _ {T : Type 0} where
       record {
         items = rw (below, ← vs.1) t.items;
         stored = λ two. IsStored-from_parts t.below marks' values' parts
-          (omega (arith, two, ap length t.items, length-append t.below (t.entry ∷ [])));
+            (omega (arith, two, ap length t.items, length-append t.below (t.entry ∷ [])));
       }
 
   some_behind : (xs : List T) (a : Option T) (vs : List T) → is_some a ≡ true → vs ≡ xs ++ option_to_list a → 0 < length vs
@@ -174,7 +174,7 @@ module _ {T : Type 0} where
   pub record IsTaken (marks : List Bool) (values values' : List T) (entry : Option T) : Type 0 where
     pub stored : IsStored (set marks (length marks - 1) false) values'
     pub items : entries_of (set marks (length marks - 1) false) values'
-      ≡ set (entries_of marks values) (length (entries_of marks values) - 1) None
+        ≡ set (entries_of marks values) (length (entries_of marks values) - 1) None
     pub value : entry ≡ get_or (entries_of marks values) (length (entries_of marks values) - 1) None
 
   taken_by_parts : (items below : List (Option T)) (entry entry' : Option T) (marks : List Bool) (values values' : List T)
@@ -184,15 +184,15 @@ module _ {T : Type 0} where
   taken_by_parts items below entry entry' marks values values' is e m v v' same =
       let vs = same_behind (filled_values below) values' entry entry' same (sym v ∙ v') in
       let marks' : set marks (length marks - 1) false ≡ map is_some below ++ false ∷ [] =
-        rw m (set-last (map is_some below) (is_some entry) false) in
+      rw m (set-last (map is_some below) (is_some entry) false) in
       let parts : IsPartsOf (below ++ None ∷ []) (set marks (length marks - 1) false) values' =
-        rw (marks', ← vs.0, ← append-nil (filled_values below))
-        (IsPartsOf-push below (map is_some below) (filled_values below) None (own_parts below)) in
+      rw (marks', ← vs.0, ← append-nil (filled_values below))
+      (IsPartsOf-push below (map is_some below) (filled_values below) None (own_parts below)) in
       record {
         stored = IsStored-from_parts (below ++ None ∷ []) _ values' parts (omega (arith, length-append below (None ∷ [])));
         items =
-          entries_of-parts (below ++ None ∷ []) _ values' parts
-          ∙ sym (rw (is, e) (set-last below entry None));
+            entries_of-parts (below ++ None ∷ []) _ values' parts
+            ∙ sym (rw (is, e) (set-last below entry None));
         value = rw (is, e, get_or-last below entry None) (sym vs.1);
       }
 
@@ -217,7 +217,7 @@ module _ {T : Type 0} where
       stays (entries_of marks values) t.below t.entry t.items mark
     where
       stays : (items below : List (Option T)) (entry : Option T) → items ≡ below ++ entry ∷ [] → is_some entry ≡ false
-        → set items (length items - 1) None ≡ items
+          → set items (length items - 1) None ≡ items
       stays items below None e m = rw e (set-last below None None)
       stays items below (Some v) e m = absurd (cc)
 
@@ -252,14 +252,14 @@ module _ {T : Type 0} where
       replaced (entries_of marks values) t.below t.entry marks values t.items t.marks_are t.values_are mark
     where
       replaced : (items below : List (Option T)) (entry : Option T) (marks : List Bool) (values : List T)
-        → items ≡ below ++ entry ∷ [] → marks ≡ map is_some below ++ is_some entry ∷ []
-        → values ≡ filled_values below ++ option_to_list entry → is_some entry ≡ true
-        → entries_of marks (set values (length values - 1) value) ≡ set items (length items - 1) (Some value)
+          → items ≡ below ++ entry ∷ [] → marks ≡ map is_some below ++ is_some entry ∷ []
+          → values ≡ filled_values below ++ option_to_list entry → is_some entry ≡ true
+          → entries_of marks (set values (length values - 1) value) ≡ set items (length items - 1) (Some value)
       replaced items below None marks values e m v s = absurd (cc)
       replaced items below (Some x) marks values e m v s =
-        rw (e, set-last below (Some x) (Some value), m, v, set-last (filled_values below) x value)
-        (entries_of-parts (below ++ Some value ∷ []) _ _
-         (IsPartsOf-push below (map is_some below) (filled_values below) (Some value) (own_parts below)))
+          rw (e, set-last below (Some x) (Some value), m, v, set-last (filled_values below) x value)
+          (entries_of-parts (below ++ Some value ∷ []) _ _
+          (IsPartsOf-push below (map is_some below) (filled_values below) (Some value) (own_parts below)))
 
   -- the top entry holds the last value where it is filled
   pub kept_top : (marks : List Bool) (values : List T) → IsStored marks values → get_or marks (length marks - 1) false ≡ true
@@ -297,7 +297,7 @@ module _ {T : Type 0} where
   filled_top marks values value h e = by_mark (get_or marks (length marks - 1) false) (sym (top_entry marks values h) ∙ e) refl
     where
       by_mark : (b : Bool) → cond b (slice_get values (length values - 1)) None ≡ Some value
-        → get_or marks (length marks - 1) false ≡ b → IsFilledTop marks values value
+          → get_or marks (length marks - 1) false ≡ b → IsFilledTop marks values value
       by_mark true e is = record { filled = is; value_is = e }
       by_mark false e is = absurd (cc)
 
@@ -308,8 +308,8 @@ module _ {T : Type 0} where
   IsFilledTop-from_fills marks values old new made value h is f =
       filled_top marks values value h
       (rw (is, f.becomes.entries, length-set old.items (length old.items - 1) (Some value))
-       (get_or-set_same old.items (length old.items - 1) (Some value) None
-        (omega (arith, length-entries_of marks values h, h.not_empty, ap length (is ∙ f.becomes.entries), length-set old.items (length old.items - 1) (Some value)))))
+      (get_or-set_same old.items (length old.items - 1) (Some value) None
+      (omega (arith, length-entries_of marks values h, h.not_empty, ap length (is ∙ f.becomes.entries), length-set old.items (length old.items - 1) (Some value)))))
 
   -- the last value, as it was read
   pub value_read : (marks : List Bool) (values : List T) (value : T) (n : ℕ) (read : T) → IsStored marks values
@@ -330,7 +330,7 @@ module _ {T : Type 0} where
   pub record IsFilledIn (marks : List Bool) (values : List T) (value : T) : Type 0 where
     pub stored : IsStored (set marks (length marks - 1) true) (values ++ value ∷ [])
     pub items : entries_of (set marks (length marks - 1) true) (values ++ value ∷ [])
-      ≡ set (entries_of marks values) (length (entries_of marks values) - 1) (Some value)
+        ≡ set (entries_of marks values) (length (entries_of marks values) - 1) (Some value)
     pub was_absent : get_or (entries_of marks values) (length (entries_of marks values) - 1) None ≡ None
 
   filled_in_by_parts : (items below : List (Option T)) (entry : Option T) (marks : List Bool) (values : List T) (value : T)
@@ -339,15 +339,15 @@ module _ {T : Type 0} where
   filled_in_by_parts items below (Some v) marks values value is e m vs absent = absurd (cc)
   filled_in_by_parts items below None marks values value is e m vs absent =
       let marks' : set marks (length marks - 1) true ≡ map is_some below ++ true ∷ [] =
-        rw m (set-last (map is_some below) false true) in
+      rw m (set-last (map is_some below) false true) in
       let parts : IsPartsOf (below ++ Some value ∷ []) (set marks (length marks - 1) true) (values ++ value ∷ []) =
-        rw (marks', vs, append-nil (filled_values below))
-        (IsPartsOf-push below (map is_some below) (filled_values below) (Some value) (own_parts below)) in
+      rw (marks', vs, append-nil (filled_values below))
+      (IsPartsOf-push below (map is_some below) (filled_values below) (Some value) (own_parts below)) in
       record {
         stored = IsStored-from_parts (below ++ Some value ∷ []) _ _ parts (omega (arith, length-append below (Some value ∷ [])));
         items =
-          entries_of-parts (below ++ Some value ∷ []) _ _ parts
-          ∙ sym (rw (is, e) (set-last below None (Some value)));
+            entries_of-parts (below ++ Some value ∷ []) _ _ parts
+            ∙ sym (rw (is, e) (set-last below None (Some value)));
         was_absent = rw (is, e) (get_or-last below None None);
       }
 

@@ -30,9 +30,10 @@ encode_lead c =
 -- a text may be cut before its last character
 pub IsCharBoundary-before_last : (bs front : List ℕ) (c : ℕ) → bs ≡ front ++ encode c → IsCharBoundary bs (length front)
 IsCharBoundary-before_last bs front c e =
-    rw e
-    (omega (arith, length-append front (encode c)),
-     λ _ high. rw at (elim (encode_lead c) [ inl low ↦ absurd (omega (arith, at)) | inr lead ↦ lead ]))
+    rw e (
+      omega (arith, length-append front (encode c)),
+      λ _ high. rw at (elim (encode_lead c) [ inl low ↦ absurd (omega (arith, at)) | inr lead ↦ lead ]),
+    )
   where
     at : get_or (front ++ encode c) (length front) 0 ≡ get_or (encode c) 0 0
     at = ap (λ k. get_or (front ++ encode c) k 0) (omega arith) ∙ get_or-append-add front (encode c) 0 0

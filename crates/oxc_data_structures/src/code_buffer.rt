@@ -247,10 +247,14 @@ impl CodeBuffer {
     pub fn print_indent(&mut self, depth: usize) -> Result<(), AllocError>
         requires { depth * self.old.indent_width < 2 ^ 63 }
         ensures ok { OnOk result (Appends self.old self.new
-          (replicate (depth * self.old.indent_width) (indent_byte self.old.indent_char))) }
+            (replicate (depth * self.old.indent_width) (indent_byte self.old.indent_char))) }
         ensures err { OnErr result (IsUnchanged self.old self.new) }
     {
-        push_times(&mut self.text, self.indent_char.byte(), depth * self.indent_width)
+        push_times(
+            &mut self.text,
+            self.indent_char.byte(),
+            depth * self.indent_width,
+        )
     }
 
     /// The bytes so far.

@@ -27,7 +27,7 @@ impl Model for Rope {
     ghost view = { λ r. string_bytes r.text };
 
     ghost invariant = { λ r. (r.starts.items ≡ line_starts (string_bytes r.text))
-      × (length (string_bytes r.text) < 2 ^ 32) };
+        × (length (string_bytes r.text) < 2 ^ 32) };
 }
 
 impl Rope {

@@ -67,7 +67,11 @@ impl<T> NonEmptyStack<T> {
     }
 
     /// A stack of one entry with room for `capacity` entries.
-    pub fn with_capacity(alloc: Global, capacity: usize, initial_value: T) -> Result<Self, AllocError>
+    pub fn with_capacity(
+        alloc: Global,
+        capacity: usize,
+        initial_value: T,
+    ) -> Result<Self, AllocError>
     where
         T: Drop,
         requires { 0 < capacity }

@@ -30,7 +30,7 @@ impl<T> Model for SparseStack<T> {
     ghost view = { λ s. record {
       items = entries_of s.has_values.items s.values.items;
       total_capacity = vec_capacity s.has_values;
-      filled_capacity = vec_capacity s.values
+      filled_capacity = vec_capacity s.values;
     } };
 
     ghost invariant = { λ s. IsStored s.has_values.items s.values.items };
@@ -78,8 +78,8 @@ impl<T> SparseStack<T> {
         ensures ok { OnOk result (Becomes self.old self.new (self.old.items ++ value ∷ [])) }
         ensures err { OnErr result (Becomes self.old self.new self.old.items) }
         ensures succeeds { length self.old.items < self.old.total_capacity
-          → (IsSome value → length (filled_values self.old.items) < self.old.filled_capacity)
-          → IsOk result }
+            → (IsSome value → length (filled_values self.old.items) < self.old.filled_capacity)
+            → IsOk result }
     {
         self.has_values.reserve(1)?;
         match value {

@@ -6,5 +6,5 @@ abbrev pub invariant-loop : goal.invariant-loop
 invariant-loop l = record {
   pushed : string_bytes l.text ≡ string_bytes l.fn.text ++ replicate l.counter l.byte;
   room : string_len l.text + l.count ≤ string_capacity l.text + l.counter;
-  capacity : string_capacity l.fn.text ≤ string_capacity l.text
+  capacity : string_capacity l.fn.text ≤ string_capacity l.text;
 }

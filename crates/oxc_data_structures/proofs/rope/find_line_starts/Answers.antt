@@ -8,7 +8,7 @@ pub loop-ch-preserved-in-Continue-branch-2 : goal.loop-ch-preserved-in-Continue-
 loop-ch-preserved-in-Continue-branch-2 c =
     rw c.in_ok-push.ensures.items
     (IsScanned-next _ _ _ _ _ _ _ true c.loop-ch.invariant c.in-Some.ensures.steps.0 c.len_utf8.ensures.value
-     (sym c.if-is_end_of_line.true ∙ c.is_end_of_line.ensures ∙ ap (λ s. ends_line c.in-Some.ch (chars s)) c.as_str.ensures))
+    (sym c.if-is_end_of_line.true ∙ c.is_end_of_line.ensures ∙ ap (λ s. ends_line c.in-Some.ch (chars s)) c.as_str.ensures))
 
 pub loop-ch-preserved : goal.loop-ch-preserved
 loop-ch-preserved c =

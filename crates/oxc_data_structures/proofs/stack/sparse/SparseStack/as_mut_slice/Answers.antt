@@ -7,4 +7,4 @@ pub invariant_of-self-lent : goal.invariant_of-self-lent
 invariant_of-self-lent g c w =
     IsStored-values _ _ _ c.self.invariant
     (sym (length_refill c.self.inside.values.len c.self.inside.values.items w c.self.inside.values.ok.0)
-     ∙ c.self.inside.values.ok.0)
+    ∙ c.self.inside.values.ok.0)

@@ -23,13 +23,14 @@ returns-clause-ok g c =
     let len = c.len-last.ensures ∙ c.self.inside.has_values.ok.0 in
     let absent = mark_read _ _ _ _ len c.self.invariant.not_empty c.index.ensures c.if-index.false in
     let made = filled_in _ _ c.init.result c.self.invariant absent in
-    rw (← c.self.view_is)
-    (c.init.result,
-     record {
-       becomes = record {
-         entries = rw (len, c.push_reserved.ensures.items, c.in_ok-reserve.ensures.items) made.items;
-         total_capacity = omega arith;
-         filled_capacity = omega (arith, c.in_ok-reserve.ensures.capacity, c.push_reserved.ensures.capacity);
-       };
-       value_is = rw made.was_absent c.init.ensures;
-     })
+    rw (← c.self.view_is) (
+      c.init.result,
+      record {
+        becomes = record {
+          entries = rw (len, c.push_reserved.ensures.items, c.in_ok-reserve.ensures.items) made.items;
+          total_capacity = omega arith;
+          filled_capacity = omega (arith, c.in_ok-reserve.ensures.capacity, c.push_reserved.ensures.capacity);
+        };
+        value_is = rw made.was_absent c.init.ensures;
+      },
+    )

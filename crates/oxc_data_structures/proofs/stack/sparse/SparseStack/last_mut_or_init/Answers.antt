@@ -26,15 +26,18 @@ returns g c =
     let fills = c.in_ok-fill_last.ensures.ok in
     let top = IsFilledTop-from_fills _ _ _ _ _ _ c.self.invariant (ap (λ s. s.items) c.self.view_is) fills.1 in
     let len = c.len-last.ensures ∙ c.self.inside.values.ok.0 in
-    let read = value_read _ _ _ _ _ c.self.invariant top len c.index_mut.ensures.value in
-    ((refl,
-      (λ w _. record {
-        entries =
-          rw len
-          (top_replaced _ _ c.self.invariant top.filled w
-           ∙ ap (λ s. with_top s (Some w)) c.self.view_is ∙ with_top-filled _ _ _ _ _ fills.1);
-        total_capacity = omega (arith, fills.1.becomes.total_capacity, ap (λ s. s.total_capacity) c.self.view_is);
-        filled_capacity = omega (arith, fills.1.becomes.filled_capacity, ap (λ s. s.filled_capacity) c.self.view_is);
-      }),
-      tt),
-     record { writes_back = tt; value = rw read fills.1.value_is })
+    let read = value_read _ _ _ _ _ c.self.invariant top len c.index_mut.ensures.value in (
+      (
+        refl,
+        (λ w _. record {
+          entries =
+              rw len
+              (top_replaced _ _ c.self.invariant top.filled w
+              ∙ ap (λ s. with_top s (Some w)) c.self.view_is ∙ with_top-filled _ _ _ _ _ fills.1);
+          total_capacity = omega (arith, fills.1.becomes.total_capacity, ap (λ s. s.total_capacity) c.self.view_is);
+          filled_capacity = omega (arith, fills.1.becomes.filled_capacity, ap (λ s. s.filled_capacity) c.self.view_is);
+        }),
+        tt,
+      ),
+      record { writes_back = tt; value = rw read fills.1.value_is },
+    )

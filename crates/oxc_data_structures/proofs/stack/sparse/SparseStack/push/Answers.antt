@@ -15,9 +15,13 @@ invariant_of-self-in-None g c =
 
 pub returns-in_ok-push-in-Some-clause-ok : goal.returns-in_ok-push-in-Some-clause-ok
 returns-in_ok-push-in-Some-clause-ok g c =
-    rw
-    (← c.self.view_is, c.in-Some.is, c.push_reserved.ensures.items, c.in_ok-reserve.ensures.items,
-     c.in_ok-push-in-Some.ensures.items)
+    rw (
+      ← c.self.view_is,
+      c.in-Some.is,
+      c.push_reserved.ensures.items,
+      c.in_ok-reserve.ensures.items,
+      c.in_ok-push-in-Some.ensures.items,
+    )
     (record {
       entries = (pushed _ _ (Some c.in-Some.value) c.self.invariant).items;
       total_capacity = omega (arith, c.in_ok-reserve.ensures.capacity, c.push_reserved.ensures.capacity);
