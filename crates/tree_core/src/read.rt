@@ -423,7 +423,9 @@ fn read_list(alloc: Global, value: &Value, holes: bool) -> Result<Field, ReadErr
         (reading.list_of (json_of (view value.now)) holes) ≡ None)) }
 {
     match value {
-        Value::Array(items) => Ok(Field::List(NodeList::from_vec(read_items(alloc, items, holes)?))),
+        Value::Array(items) => Ok(Field::List(NodeList::from_vec(read_items(
+            alloc, items, holes,
+        )?))),
         _ => Err(ReadError::BadTree),
     }
 }

@@ -235,8 +235,7 @@ fn admits(group: Group, role: Role, within: &FieldList, kind: Kind, fields: &Fie
         Group::PropertyValues => is_property_value(role, kind),
         Group::Patterns => is_pattern(role, kind),
         Group::ElementsOrRest => {
-            is_pattern(role, kind)
-                || kind.is_among(&[Kind::AssignmentPattern, Kind::RestElement])
+            is_pattern(role, kind) || kind.is_among(&[Kind::AssignmentPattern, Kind::RestElement])
         }
         Group::ImportSpecifiers => kind.is_among(&[
             Kind::ImportSpecifier,
@@ -255,9 +254,7 @@ fn admits(group: Group, role: Role, within: &FieldList, kind: Kind, fields: &Fie
                 Kind::ClassDeclaration,
             ]) && is_named(kind, fields)
         }
-        Group::Defaults => {
-            is_expression(kind) || kind.is_among(&NAMED_STATEMENTS)
-        }
+        Group::Defaults => { is_expression(kind) || kind.is_among(&NAMED_STATEMENTS) }
     }
 }
 
@@ -449,7 +446,12 @@ pub(crate) fn is_placed(alloc: Global, root: &Node) -> bool
     ensures { result ≡ spec.is_placed root.now }
 {
     let nothing = FieldList::from_vec(Vec::new(alloc));
-    node_stands(root, Class::One(Group::Only(Kind::Program)), Role::Read, &nothing)
+    node_stands(
+        root,
+        Class::One(Group::Only(Kind::Program)),
+        Role::Read,
+        &nothing,
+    )
 }
 
 #[cycle(stand)]
@@ -467,7 +469,12 @@ fn fields_stand(fields: &FieldList, columns: &[Column], own: Role) -> bool
     for i in 0..fields.len() {
         let Some(field) = fields.get(i) else { break };
         let column = column_at(columns, i);
-        if !field_stands(field, column.class, role_at(column.mode, own, fields), fields) {
+        if !field_stands(
+            field,
+            column.class,
+            role_at(column.mode, own, fields),
+            fields,
+        ) {
             return false;
         }
     }
