@@ -1,6 +1,6 @@
 -- Trees whose parts fit the node table: each field is one that its column can be read as. What is read is such a tree,
 -- and the value of such a tree is read as it.
-use Rattle.std.specs.Prelude.{ℕ, ◌^◌, ◌<◌, ◌≡◌, List, [], ◌∷◌, Bool, true, false, Option, Some, None, option_map, if◌then◌else◌}
+use Rattle.std.specs.Prelude.{ℕ, ◌^◌, ◌<◌, ◌≡◌, List, [], ◌∷◌, Bool, true, false, Option, Some, None, option_map}
 use Rattle.json_text.specs.Json.{Json}
 use Rattle.json_text.specs.HasText.{HasText}
 use Rattle.tree_core.specs.Reading.{is_null_value, one, or_null, text_in, units_in, part_from, holder}

@@ -1,5 +1,5 @@
 -- A field is read from the member under its key.
-use Rattle.std.proofs.Common.{◌≡◌, ℕ, List, Bool, true, false, Option, Some, None, if◌then◌else◌, refl, bytes_eq}
+use Rattle.std.proofs.Common.{◌≡◌, Bool, true, false, Option, Some, None, if◌then◌else◌, refl, bytes_eq}
 use Rattle.json_text.specs.Json.{Json, Members, no_members, member}
 use Rattle.tree_core.specs.Reading.{absent, find_member, list_of, outer_key, part_from, part_in, shape_of}
 use Rattle.tree_core.specs.Table.{Column}

@@ -1,18 +1,16 @@
 -- What is read fits the node table.
-use Rattle.std.proofs.Common.{◌≡◌, ℕ, zero, suc, ◌+◌, ◌^◌, ◌<◌, ◌≤◌, ℤ, pos, negsuc, List, [], ◌∷◌, get_or, Bool, true, false, cond, not, ◌&&◌, ◌||◌, nat_lt, Option, Some, None, option_map, option_and_then, if◌then◌else◌, refl, sym, ap, ◌∙◌, subst, arith, true≢false, bytes_eq, IsUtf8, IsAscii, ltb-true, lt-ltb, lt_of_lt_of_le, codes}
+use Rattle.std.proofs.Common.{◌≡◌, ℕ, suc, ◌+◌, ◌^◌, ◌<◌, pos, negsuc, List, [], ◌∷◌, get_or, Bool, true, false, cond, ◌&&◌, nat_lt, Option, Some, None, option_map, option_and_then, if◌then◌else◌, refl, sym, ap, ◌∙◌, subst, arith, true≢false, bytes_eq, IsUtf8, ltb-true, lt-ltb, codes}
 use Rattle.std.specs.List.{list_all, position_from}
-use Rattle.std.proofs.lemmas.Str.{IsUtf8-from_ascii}
 use Rattle.json_text.specs.Json.{Json, null, truth, whole as number, other_number, string, list, object, Items, no_items, item, Members, no_members, member}
-use Rattle.json_text.specs.HasText.{AreCodeUnits, HasText}
+use Rattle.json_text.specs.HasText.{AreCodeUnits}
 use Rattle.json_text.specs.Units.{are_code_units, text_of_units, units_of}
-use Rattle.json_text.proofs.Units.{text_of_units-units_of, IsUtf8-text_of_units, AreCodeUnits-units_of, AreCodeUnits-are_code_units, are_code_units-AreCodeUnits, units_of-IsAscii, AreCodeUnits-text_of_units}
+use Rattle.json_text.proofs.Units.{text_of_units-units_of, IsUtf8-text_of_units, AreCodeUnits-units_of, AreCodeUnits-are_code_units, are_code_units-AreCodeUnits, AreCodeUnits-text_of_units}
 use Rattle.syntax_lex.specs.Identifier.{is_identifier_name}
 use Rattle.tree_core.specs.Look.{onto}
-use Rattle.tree_core.specs.Reading.{absent, are_distinct, below, find_member, has_only, is_null_value, is_paired, items_from, list_of, offset_of, one, only_known, or_hole, or_null, outer_key, part_from, part_in, regex_part, row_for, run_of, shape_from, shape_of, supported_row, template_part, text_in, units_in, units_in_list, value_part, word_number, holder}
+use Rattle.tree_core.specs.Reading.{absent, are_distinct, below, find_member, has_only, is_null_value, is_paired, items_from, list_of, offset_of, one, only_known, or_hole, or_null, outer_key, part_from, part_in, regex_part, row_for, run_of, shape_from, shape_of, supported_row, template_part, text_in, units_in, units_in_list, value_part, word_number}
 use Rattle.tree_core.specs.Supported.{is_supported}
 use Rattle.tree_core.specs.Table.{Column, Row, row, row_among, row_named, word_list}
 use Rattle.tree_core.specs.Tree.{Atom, Parts, Tree, Text, alone, atom, child, done, empty, flag, is_empty, many, text, units, whole, word}
-use Rattle.tree_core.specs.Values.{atom_value, is_null_atom, word_text}
 use Rattle.tree_core.specs.declared.kind.Kind.{Kind}
 use Rattle.tree_core.specs.declared.table.Class.{Class as FieldClass}
 use Rattle.tree_core.specs.declared.table.Class.TheVariants.{Cooked, Flag, Flags, Holes, LiteralValue, Many, ManyOr, Maybe, Name, One, Pattern, Raw, Text as TextClass, TextOr, Word}
@@ -22,8 +20,8 @@ use Rattle.tree_core.proofs.Cases.{both, if_some, map_some, none_some, some_same
 use Rattle.tree_core.proofs.Found.{part_found, part_in-part_found}
 use Rattle.tree_core.specs.Kinds.{all_kinds}
 use Rattle.tree_core.proofs.Classes.{is_empty-atom, is_flags-Flags, key_of_class}
-use Rattle.tree_core.proofs.Fits.{FitFields, FitItems, Fits, FitsAtom, FitsHead, FitsNext, FitsPart, TakesList, TakesNode, inner_part}
-use Rattle.tree_core.proofs.RowFacts.{are_followed, are_ordered, ascii_words, is_flags, is_followed, row_kind, row_sound}
+use Rattle.tree_core.proofs.Fits.{FitFields, FitItems, Fits, FitsAtom, FitsNext, FitsPart, TakesList, TakesNode}
+use Rattle.tree_core.proofs.RowFacts.{are_followed, ascii_words, is_followed, row_kind, row_sound}
 
 -- ---- values that are no objects
 

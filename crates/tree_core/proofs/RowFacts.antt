@@ -1,9 +1,9 @@
 -- What the proofs take from the node table: a few facts, each by computing over its rows.
-use Rattle.std.specs.Prelude.{ℕ, List, [], ◌∷◌, Bool, true, false, not, ◌&&◌, ◌||◌, nat_lt, bytes_eq, codes, Some, if◌then◌else◌}
+use Rattle.std.specs.Prelude.{ℕ, List, [], ◌∷◌, Bool, true, false, not, ◌&&◌, ◌||◌, bytes_eq, codes, Some, if◌then◌else◌}
 use Rattle.std.specs.List.{list_all}
 use Rattle.std.proofs.Common.{◌≡◌, refl}
 use Rattle.json_text.specs.Units.{are_code_units}
-use Rattle.tree_core.specs.Reading.{is_listed, outer_key}
+use Rattle.tree_core.specs.Reading.{is_listed}
 use Rattle.tree_core.specs.Table.{Column, Row, row, row_named, word_list}
 use Rattle.tree_core.proofs.Ascii.{is_ascii}
 use Rattle.tree_core.proofs.Cases.{both, not_true}

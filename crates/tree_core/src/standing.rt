@@ -1,5 +1,5 @@
-//! Where each node may stand: what a field takes, by its group, by the fields beside it, and by the role
-//! that it gives.
+//! Where each node may stand: what a field takes, by its group, by the fields beside it, and by
+//! the role that it gives.
 
 ghost use Rattle.std.specs.Prelude.{◌≡◌, ◌&&◌, map, drop, option_copied, slice_get};
 ghost use Rattle.tree_core.specs.Along.{each, first_column};
@@ -178,8 +178,8 @@ const WORD_IN: u8 = 20;
 // The number of `module` among the source types.
 const WORD_MODULE: u8 = 1;
 
-/// Whether a node of this kind with these fields may stand in a field of the group, which gives this role,
-/// beside the fields of its parent.
+/// Whether a node of this kind with these fields may stand in a field of the group, which gives
+/// this role, beside the fields of its parent.
 #[tactic(auto, unfolding(crate::specs::Standing::admits))]
 fn admits(group: Group, role: Role, within: &FieldList, kind: Kind, fields: &FieldList) -> bool
     ensures { result ≡ spec.admits group role within.now kind fields.now }
@@ -385,7 +385,8 @@ fn identifier_at(fields: &FieldList, i: u8) -> bool
     }
 }
 
-// A shorthand mark stands on a key that is an Identifier and isn't computed, before a value of the same name.
+// A shorthand mark stands on a key that is an Identifier and isn't computed, before a value of the
+// same name.
 #[tactic(auto, unfolding(crate::specs::Standing::is_short))]
 fn is_short(fields: &FieldList) -> bool
     ensures { result ≡ spec.is_short fields.now }
