@@ -1,5 +1,5 @@
 -- From the shape of a value to the tree that it is.
-use Rattle.std.proofs.Common.{◌≡◌, Bool, true, false, Option, Some, None, option_and_then, if◌then◌else◌, refl, ap, ◌∙◌}
+use Rattle.std.proofs.Common.{◌≡◌, Bool, true, false, Option, Some, None, option_and_then, if◌then◌else◌, ap, ◌∙◌}
 use Rattle.json_text.specs.Json.{Json}
 use Rattle.tree_core.specs.declared.read.ReadError.{ReadError}
 use Rattle.tree_core.specs.declared.read.ReadError.TheVariants.{TooLarge, BadTree, Memory}

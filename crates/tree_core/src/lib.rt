@@ -25,3 +25,6 @@ pub use table::{
     Class, Column, Declared, Group, Mark, Mode, Opens, Role, Row, Strict, Words, word_list,
 };
 pub use text::TreeText;
+
+#[cfg(test)]
+mod tests;

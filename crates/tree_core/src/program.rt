@@ -6,7 +6,8 @@ use crate::node::Node;
 use crate::roles::word_at;
 use std::marker::Model;
 
-/// What a program's source is: a script, a module, or a CommonJS module, whose code lies in a function.
+/// What a program's source is: a script, a module, or a CommonJS module, whose code lies in a
+/// function.
 #[derive(Clone, Copy, Debug, PartialEq, Eq)]
 pub enum SourceType {
     Script,

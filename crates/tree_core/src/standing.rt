@@ -1,5 +1,5 @@
-//! Where each node may stand: what a field takes, by its group, by the fields beside it, and by the role
-//! that it gives.
+//! Where each node may stand: what a field takes, by its group, by the fields beside it, and by
+//! the role that it gives.
 
 ghost use Rattle.std.specs.Prelude.{◌≡◌, ◌&&◌, map, drop, option_copied, slice_get};
 ghost use Rattle.tree_core.specs.Along.{each, first_column};
@@ -178,8 +178,8 @@ const WORD_IN: u8 = 20;
 // The number of `module` among the source types.
 const WORD_MODULE: u8 = 1;
 
-/// Whether a node of this kind with these fields may stand in a field of the group, which gives this role,
-/// beside the fields of its parent.
+/// Whether a node of this kind with these fields may stand in a field of the group, which gives
+/// this role, beside the fields of its parent.
 #[tactic(auto, unfolding(crate::specs::Standing::admits))]
 fn admits(group: Group, role: Role, within: &FieldList, kind: Kind, fields: &FieldList) -> bool
     ensures { result ≡ spec.admits group role within.now kind fields.now }
@@ -235,8 +235,7 @@ fn admits(group: Group, role: Role, within: &FieldList, kind: Kind, fields: &Fie
         Group::PropertyValues => is_property_value(role, kind),
         Group::Patterns => is_pattern(role, kind),
         Group::ElementsOrRest => {
-            is_pattern(role, kind)
-                || kind.is_among(&[Kind::AssignmentPattern, Kind::RestElement])
+            is_pattern(role, kind) || kind.is_among(&[Kind::AssignmentPattern, Kind::RestElement])
         }
         Group::ImportSpecifiers => kind.is_among(&[
             Kind::ImportSpecifier,
@@ -255,9 +254,7 @@ fn admits(group: Group, role: Role, within: &FieldList, kind: Kind, fields: &Fie
                 Kind::ClassDeclaration,
             ]) && is_named(kind, fields)
         }
-        Group::Defaults => {
-            is_expression(kind) || kind.is_among(&NAMED_STATEMENTS)
-        }
+        Group::Defaults => { is_expression(kind) || kind.is_among(&NAMED_STATEMENTS) }
     }
 }
 
@@ -388,7 +385,8 @@ fn identifier_at(fields: &FieldList, i: u8) -> bool
     }
 }
 
-// A shorthand mark stands on a key that is an Identifier and isn't computed, before a value of the same name.
+// A shorthand mark stands on a key that is an Identifier and isn't computed, before a value of the
+// same name.
 #[tactic(auto, unfolding(crate::specs::Standing::is_short))]
 fn is_short(fields: &FieldList) -> bool
     ensures { result ≡ spec.is_short fields.now }
@@ -449,7 +447,12 @@ pub(crate) fn is_placed(alloc: Global, root: &Node) -> bool
     ensures { result ≡ spec.is_placed root.now }
 {
     let nothing = FieldList::from_vec(Vec::new(alloc));
-    node_stands(root, Class::One(Group::Only(Kind::Program)), Role::Read, &nothing)
+    node_stands(
+        root,
+        Class::One(Group::Only(Kind::Program)),
+        Role::Read,
+        &nothing,
+    )
 }
 
 #[cycle(stand)]
@@ -467,7 +470,12 @@ fn fields_stand(fields: &FieldList, columns: &[Column], own: Role) -> bool
     for i in 0..fields.len() {
         let Some(field) = fields.get(i) else { break };
         let column = column_at(columns, i);
-        if !field_stands(field, column.class, role_at(column.mode, own, fields), fields) {
+        if !field_stands(
+            field,
+            column.class,
+            role_at(column.mode, own, fields),
+            fields,
+        ) {
             return false;
         }
     }

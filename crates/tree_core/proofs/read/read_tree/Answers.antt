@@ -1,8 +1,7 @@
-use Rattle.std.proofs.Common.{◌≡◌, Some, sym, ◌∙◌}
+use Rattle.std.proofs.Common.{◌≡◌, sym, ◌∙◌}
 use Rattle.std.proofs.lemmas.Result.{err_from_is_err_and}
 use Rattle.serde_json.specs.View.{view}
 use Rattle.tree_core.specs.JsonOf.{json_of}
-use Rattle.tree_core.specs.Reading.{tree_of}
 use Rattle.tree_core.specs.declared.read.ReadError.TheVariants.{BadTree}
 use Rattle.tree_core.proofs.ReadsBack.{reading_undoes_printing}
 use Rattle.tree_core.proofs.ReadTrees.{says_bad, tree_of-placed, tree_of-misplaced, tree_of-shapeless}

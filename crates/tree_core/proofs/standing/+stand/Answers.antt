@@ -1,5 +1,5 @@
-use Rattle.std.proofs.Common.{◌≡◌, ◌≤◌, map, drop, sym, ap, ◌∙◌, rules}
-use Rattle.tree_core.specs.Along.{each, first_column}
+use Rattle.std.proofs.Common.{◌≤◌, map, sym, ap, ◌∙◌, rules}
+use Rattle.tree_core.specs.Along.{each}
 use Rattle.tree_core.specs.Look.{parts_len}
 use Rattle.tree_core.specs.Roles.{role_at}
 use Rattle.tree_core.specs.Rows.{column_of}
