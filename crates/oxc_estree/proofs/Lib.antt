@@ -1,0 +1,11 @@
+pub mod Refusals
+pub mod Escapes
+pub mod Units
+pub mod Paths
+pub mod Closes
+pub mod Growth
+pub mod StructUnderWay
+pub mod ListUnderWay
+pub mod Loops
+pub mod Envelopes
+pub mod EnvelopeReads

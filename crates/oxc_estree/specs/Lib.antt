@@ -1,0 +1,6 @@
+pub mod Out
+pub mod Refused
+pub mod Open
+pub mod TracePathPart
+pub mod Values
+pub mod Envelope

@@ -1,0 +1,98 @@
+//! White space between the tokens of the output.
+
+ghost use Rattle.std.specs.Prelude.{◌≡◌, Bool, OnErr, OnOk};
+ghost use Rattle.json_text.specs.Layout.{Layout, compact, deeper, is_compact, new_line, shallower, space, start_layout};
+ghost use Rattle.oxc_data_structures.specs.CodeBuffer.{Appends};
+ghost use Rattle.oxc_estree.specs.Refused.{IsPartlyPrinted};
+
+use oxc_data_structures::code_buffer::CodeBuffer;
+use std::alloc::AllocError;
+
+/// What white space the output has.
+///
+/// A formatter is compact and appends nothing, or it knows how many structs and lists stand open
+/// and appends a line feed and two spaces for each of them. A call that is refused for want of
+/// memory has appended a first part of what it was to append.
+pub trait Formatter {
+    // Where white space stands, with the levels that stand open.
+    ghost layout: { Self → Layout };
+
+    ghost IS_COMPACT: { Bool };
+
+    /// Whether the output has no white space.
+    const IS_COMPACT: bool;
+
+    /// A formatter with no level open.
+    fn new() -> Self
+        ensures { layout result ≡ start_layout IS_COMPACT };
+
+    /// Opens a level, and appends what stands before its first field or element.
+    fn before_first_element(&mut self, buffer: &mut CodeBuffer) -> Result<(), AllocError>
+        ensures level { OnOk result (layout self.new ≡ deeper (layout self.old)) }
+        ensures ok {
+            OnOk result (Appends buffer.old buffer.new (new_line (deeper (layout self.old)))) }
+        ensures refused {
+            OnErr result (IsPartlyPrinted buffer.old buffer.new (new_line (deeper (layout self.old)))) };
+
+    /// Appends what stands before a later field or element.
+    fn before_later_element(&mut self, buffer: &mut CodeBuffer) -> Result<(), AllocError>
+        ensures level { OnOk result (layout self.new ≡ layout self.old) }
+        ensures ok { OnOk result (Appends buffer.old buffer.new (new_line (layout self.old))) }
+        ensures refused {
+            OnErr result (IsPartlyPrinted buffer.old buffer.new (new_line (layout self.old))) };
+
+    /// Appends what stands between a field's colon and its value.
+    fn before_field_value(&mut self, buffer: &mut CodeBuffer) -> Result<(), AllocError>
+        ensures level { OnOk result (layout self.new ≡ layout self.old) }
+        ensures ok { OnOk result (Appends buffer.old buffer.new (space (layout self.old))) }
+        ensures refused {
+            OnErr result (IsPartlyPrinted buffer.old buffer.new (space (layout self.old))) };
+
+    /// Closes a level, and appends what stands before the closing bracket. Where no level is open,
+    /// none stays open.
+    fn after_last_element(&mut self, buffer: &mut CodeBuffer) -> Result<(), AllocError>
+        ensures level { OnOk result (layout self.new ≡ shallower (layout self.old)) }
+        ensures ok {
+            OnOk result (Appends buffer.old buffer.new (new_line (shallower (layout self.old)))) }
+        ensures refused {
+            OnErr result (IsPartlyPrinted buffer.old buffer.new (new_line (shallower (layout self.old)))) };
+
+    // A formatter is compact at every time, or at none.
+    ghost compact_is: { (f : Self) → is_compact (layout f) ≡ IS_COMPACT };
+}
+
+/// A formatter that appends nothing.
+#[derive(Drop)]
+pub struct CompactFormatter;
+
+impl Formatter for CompactFormatter {
+    ghost use Rattle.std.specs.Prelude.{true, refl};
+
+    ghost layout = { λ _. compact };
+
+    ghost IS_COMPACT = { true };
+
+    ghost compact_is = { λ _. refl };
+
+    const IS_COMPACT: bool = true;
+
+    fn new() -> Self {
+        CompactFormatter
+    }
+
+    fn before_first_element(&mut self, _buffer: &mut CodeBuffer) -> Result<(), AllocError> {
+        Ok(())
+    }
+
+    fn before_later_element(&mut self, _buffer: &mut CodeBuffer) -> Result<(), AllocError> {
+        Ok(())
+    }
+
+    fn before_field_value(&mut self, _buffer: &mut CodeBuffer) -> Result<(), AllocError> {
+        Ok(())
+    }
+
+    fn after_last_element(&mut self, _buffer: &mut CodeBuffer) -> Result<(), AllocError> {
+        Ok(())
+    }
+}

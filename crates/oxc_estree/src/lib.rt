@@ -1,0 +1,34 @@
+//! JSON output of ESTree trees.
+#![tactic(auto)]
+
+ghost use Rattle.oxc_estree.specs.Envelope.{EnvelopeReadsAlone};
+
+mod config;
+mod estree_serializer;
+mod formatter;
+mod pieces;
+mod sequences;
+mod serializer;
+mod strings;
+mod structs;
+mod trace_path;
+mod values;
+
+pub use config::{Config, ConfigFixes};
+pub use estree_serializer::ESTreeSerializer;
+pub use formatter::{CompactFormatter, Formatter};
+pub use sequences::{ESTreeSequenceSerializer, SequenceSerializer};
+pub use serializer::{ESTree, Serializer};
+pub use structs::{ESTreeStructSerializer, StructSerializer};
+pub use trace_path::TracePathPart;
+pub use values::{JsonSafeString, JsonSlice, JsonStr};
+
+/// The law that the text of a node with its fix paths, as
+/// [`serialize_with_fixes`](ESTreeSerializer::serialize_with_fixes) gives it, reads as the object of
+/// `node` and `fixes` (RFC 8259), and as no other value.
+pub fn envelope_reads_alone()
+    ensures { EnvelopeReadsAlone }
+{
+    json_text::text_reads_alone();
+    json_text::reads_one_value();
+}
