@@ -1,5 +1,5 @@
 -- A number is told by its text, where no byte of a number follows.
-use Rattle.std.proofs.Common.{◌≡◌, ℕ, suc, ◌+◌, ◌-◌, ◌*◌, ◌<◌, ◌≤◌, ◌≢◌, ℤ, pos, negsuc, List, [], ◌∷◌, ◌++◌, length, Bool, true, false, subst, sym, ap, ◌∙◌, refl, append_assoc, arith, ◌⊎◌, ⊎_elim, inl, inr, codes}
+use Rattle.std.proofs.Common.{◌≡◌, ℕ, ◌+◌, ◌<◌, ◌≤◌, ◌≢◌, ℤ, pos, negsuc, List, [], ◌∷◌, ◌++◌, length, subst, sym, ap, ◌∙◌, refl, arith, ◌⊎◌, ⊎_elim, inl, inr, codes}
 use Rattle.json_text.specs.Grammar.{IsDigit, AreDigits, IsInt, number_of, IsWhole, IsFraction, IsSign, IsExponent, IsBroken, IsOtherNumber}
 
 abbrev pub IsNumberByte : ℕ → Type 0

@@ -1,9 +1,9 @@
 -- A text reads as at most one value.
-use Rattle.std.proofs.Common.{◌≡◌, ℕ, ℤ, ◌≤◌, ◌<◌, ◌+◌, List, [], ◌∷◌, ◌++◌, Bool, true, false, subst, sym, ap, ◌∙◌, refl, append_assoc, arith, codes, cond, ◌⊎◌, ⊎_elim, inl, inr, ◌≢◌, pos, negsuc}
+use Rattle.std.proofs.Common.{◌≡◌, ℕ, ◌≤◌, ◌<◌, List, [], ◌∷◌, ◌++◌, Bool, true, false, subst, sym, ap, ◌∙◌, refl, append_assoc, arith, codes, ◌⊎◌, ⊎_elim, inl, inr, ◌≢◌, pos, negsuc}
 use Rattle.json_text.specs.Json.{Json, null, truth, whole, other_number, string, list, object, Items, no_items, item, Members, no_members, member}
-use Rattle.json_text.specs.Grammar.{ReadsValue, ReadsItems, ReadsMembers, Reads, ReadsOnce, IsSpace, IsBefore, IsString, IsWhole, IsOtherNumber, IsBroken}
+use Rattle.json_text.specs.Grammar.{ReadsValue, ReadsItems, ReadsMembers, ReadsOnce, IsSpace, IsBefore, IsWhole, IsOtherNumber, IsBroken}
 use Rattle.json_text.proofs.Spaces.{NotSpace, skip, not_space, skip_before, skip_colon}
-use Rattle.json_text.proofs.Numbers.{Ends, run, whole_bytes, other_bytes, same_whole, not_both, IsNumberByte, int_digits, broken_starts}
+use Rattle.json_text.proofs.Numbers.{Ends, run, whole_bytes, other_bytes, same_whole, not_both, int_digits, broken_starts}
 use Rattle.json_text.proofs.Strings.{same_string}
 
 -- the first byte of a value

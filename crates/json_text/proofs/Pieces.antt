@@ -1,10 +1,9 @@
 -- The text of code units reads as them.
-use Rattle.std.proofs.Common.{◌≡◌, ℕ, ◌<◌, ◌≤◌, ◌≢◌, ◌+◌, ◌-◌, ◌*◌, ◌/◌, ◌%◌, ◌⊎◌, ⊎_elim, inl, inr, List, [], ◌∷◌, ◌++◌, Bool, true, false, cond, ◌&&◌, nat_lt, nat_le, nat_eq, Option, Some, None, flat_map, arith, sym, ap, ◌∙◌, refl, subst, append_assoc, append-nil, encode_utf8}
+use Rattle.std.proofs.Common.{◌≡◌, ℕ, ◌<◌, ◌≤◌, ◌≢◌, ◌+◌, ◌*◌, ◌/◌, ◌%◌, ◌⊎◌, ⊎_elim, inl, inr, List, [], ◌∷◌, ◌++◌, Bool, true, false, nat_lt, nat_eq, Option, Some, None, flat_map, arith, sym, ap, ◌∙◌, refl, subst, append_assoc, append-nil, encode_utf8}
 use Rattle.std.specs.Char.{IsScalar}
 use Rattle.std.proofs.lemmas.Bool.Decides.{nat_tests}
-use Rattle.std.proofs.lemmas.Str.{encode_ascii}
-use Rattle.json_text.specs.Strings.{hex_digit, unit_escape, short_escape, char_text, is_lead, is_trail, joined, flush, trail_text, unit_text, waits, units_text, quoted_units}
-use Rattle.json_text.specs.Grammar.{Piece, char, short, hex, piece_text, ReadsChar, ReadsPiece, ReadsPieces, StandsFor, IsHex, IsString}
+use Rattle.json_text.specs.Strings.{hex_digit, unit_escape, char_text, is_lead, is_trail, joined, flush, trail_text, units_text, quoted_units}
+use Rattle.json_text.specs.Grammar.{Piece, char, short, hex, piece_text, ReadsPiece, ReadsPieces, IsHex, IsString}
 use Rattle.json_text.specs.HasText.{AreCodeUnits}
 
 abbrev Pieces : List ℕ → List ℕ → Type 0

@@ -1,5 +1,5 @@
 -- What comes after white space is told by the text.
-use Rattle.std.proofs.Common.{◌≡◌, ℕ, ◌<◌, ◌≢◌, List, [], ◌∷◌, ◌++◌, Bool, true, false, subst, sym, ap, ◌∙◌, refl, append_assoc, arith, ◌⊎◌}
+use Rattle.std.proofs.Common.{◌≡◌, ℕ, ◌<◌, List, [], ◌∷◌, ◌++◌, Bool, true, false, subst, sym, ap, ◌∙◌, append_assoc, arith}
 use Rattle.json_text.specs.Grammar.{IsSpaceByte, IsSpace, IsBefore, IsColon}
 
 abbrev pub NotSpace : List ℕ → Type 0

@@ -1,5 +1,5 @@
 -- A string is told by its text, whatever follows.
-use Rattle.std.proofs.Common.{◌≡◌, ℕ, ◌<◌, ◌≤◌, ◌≢◌, ◌+◌, ◌*◌, List, [], ◌∷◌, ◌++◌, flat_map, arith, sym, ap, ◌∙◌, refl, subst, append_assoc, encode_utf8, ◌⊎◌}
+use Rattle.std.proofs.Common.{◌≡◌, ℕ, ◌<◌, ◌+◌, ◌*◌, List, [], ◌∷◌, ◌++◌, flat_map, arith, sym, ap, ◌∙◌, subst, append_assoc, encode_utf8}
 use Rattle.std.proofs.iter.TextItems.{one_code}
 use Rattle.std.proofs.lemmas.Str.{encode_ascii}
 use Rattle.json_text.specs.Grammar.{Piece, char, short, hex, piece_text, ReadsChar, ReadsPiece, ReadsPieces, StandsFor, IsHex, IsString}

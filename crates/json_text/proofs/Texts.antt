@@ -1,13 +1,13 @@
 -- The text of a value reads as the value.
-use Rattle.std.proofs.Common.{◌≡◌, ℕ, zero, suc, ◌<◌, ◌≤◌, ◌*◌, ℤ, pos, negsuc, List, [], ◌∷◌, ◌++◌, Bool, true, false, cond, replicate, arith, sym, ap, ◌∙◌, refl, subst, append_assoc, append-nil, inl, inr, ◌+◌, ◌-◌, ◌/◌, ◌%◌, ◌^◌, nat_lt}
+use Rattle.std.proofs.Common.{◌≡◌, ℕ, zero, suc, ◌<◌, ◌≤◌, ◌*◌, ℤ, pos, negsuc, List, [], ◌∷◌, ◌++◌, Bool, true, false, replicate, arith, sym, refl, subst, append_assoc, append-nil, inl, inr, ◌+◌, ◌-◌, ◌/◌, ◌%◌, ◌^◌, nat_lt}
 use Rattle.std.proofs.lemmas.Bool.Decides.{nat_tests}
 use Rattle.std.proofs.lemmas.Fmt.{decimal_digit, decimal_step_wide}
 use Rattle.std.specs.Fmt.{decimal, signed_decimal}
 use Rattle.json_text.specs.Json.{Json, null, truth, whole, other_number, string, list, object, Items, no_items, item, Members, no_members, member}
 use Rattle.json_text.specs.Layout.{Layout, compact, pretty, deeper, new_line, space}
 use Rattle.json_text.specs.Strings.{quoted_units}
-use Rattle.json_text.specs.Text.{text_of, items_text, members_text, before, closing, key_text}
-use Rattle.json_text.specs.Grammar.{ReadsValue, ReadsItems, ReadsMembers, IsSpace, IsBefore, IsColon, IsWhole, Reads, IsInt, IsDigit, AreDigits, number_of}
+use Rattle.json_text.specs.Text.{text_of, items_text, members_text, before, closing}
+use Rattle.json_text.specs.Grammar.{ReadsValue, ReadsItems, ReadsMembers, IsSpace, IsBefore, IsWhole, Reads, IsInt, IsDigit, AreDigits, number_of}
 use Rattle.json_text.specs.HasText.{HasText, ItemsHaveText, MembersHaveText, IsShortNumber, TextReadsAlone}
 use Rattle.json_text.proofs.Once.{reads_once}
 use Rattle.json_text.proofs.Pieces.{string_reads}

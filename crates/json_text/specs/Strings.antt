@@ -1,5 +1,5 @@
 -- The text of a string: characters as they are, but for what has to be escaped. A lone surrogate is escaped.
-use Rattle.std.specs.Prelude.{ℕ, ◌+◌, ◌-◌, ◌*◌, ◌/◌, ◌%◌, List, [], ◌∷◌, ◌++◌, Bool, true, false, cond, ◌&&◌, nat_lt, nat_le, nat_eq, Option, Some, None, encode_utf8}
+use Rattle.std.specs.Prelude.{ℕ, ◌+◌, ◌-◌, ◌*◌, ◌/◌, ◌%◌, List, [], ◌∷◌, ◌++◌, Bool, cond, ◌&&◌, nat_lt, nat_le, nat_eq, Option, Some, None, encode_utf8}
 
 abbrev pub hex_digit : ℕ → ℕ
 hex_digit d = cond (nat_lt d 10) (48 + d) (87 + d)

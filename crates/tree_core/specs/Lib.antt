@@ -14,3 +14,4 @@ pub mod Supported
 pub mod Reading
 pub mod JsonOf
 pub mod Values
+pub mod Laws

@@ -4,7 +4,7 @@ use Rattle.std.specs.List.{position_from}
 use Rattle.json_text.specs.Json.{Json, null, truth, whole as number, other_number, string, list, object, Items, no_items, item, Members, no_members, member}
 use Rattle.tree_core.specs.declared.table.Class.{Class as FieldClass}
 use Rattle.tree_core.specs.declared.table.Class.TheVariants.{Text as TextClass}
-use Rattle.json_text.specs.Units.{text_of_units}
+use Rattle.json_text.specs.Units.{are_code_units, text_of_units}
 use Rattle.syntax_lex.specs.Identifier.{is_identifier_name}
 use Rattle.tree_core.specs.Look.{onto}
 use Rattle.tree_core.specs.Standing.{is_placed}
@@ -50,7 +50,7 @@ units_in_list (item d ds) = option_and_then (λ u. option_map (λ us. u ∷ us) 
 
 -- a string, or a list of code units
 abbrev pub units_in : Json → Option (List ℕ)
-units_in (string us) = Some us
+units_in (string us) = if are_code_units us then Some us else None
 units_in (list ds) = units_in_list ds
 units_in _ = None
 
@@ -77,8 +77,8 @@ value_part null = Some (one empty)
 value_part (truth b) = Some (one (flag b))
 value_part (number n) = option_map (λ k. one (whole k)) (below (2 ^ 64) (number n))
 value_part other_number = None
-value_part (string us) = Some (one (units us))
-value_part (list ds) = option_map (λ us. one (units us)) (units_in_list ds)
+value_part (string us) = option_map (λ x. one (units x)) (units_in (string us))
+value_part (list ds) = option_map (λ x. one (units x)) (units_in (list ds))
 value_part (object no_members) = Some (one empty)
 value_part (object (member k d ms)) = None
 

@@ -3,12 +3,14 @@
 #![tactic(auto)]
 
 mod kind;
+mod laws;
 mod node;
 mod rows;
 mod table;
 mod text;
 
 pub use kind::{KINDS, Kind};
+pub use laws::{printed_text_reads, reading_undoes_printing};
 pub use node::{Field, FieldList, Node, NodeList};
 pub use rows::{row, row_named};
 pub use table::{

@@ -1,0 +1,42 @@
+-- Reading undoes printing, and the text of what is printed reads as it.
+use Rattle.std.proofs.Common.{◌≡◌, Bool, true, Option, Some, None, option_and_then, if◌then◌else◌, ap, ◌∙◌, refl, subst}
+use Rattle.json_text.specs.Json.{Json}
+use Rattle.json_text.specs.HasText.{HasText}
+use Rattle.json_text.proofs.Texts.{text_reads_alone}
+use Rattle.tree_core.specs.Laws.{PrintedTextReads}
+use Rattle.tree_core.specs.Reading.{shape_of, tree_of}
+use Rattle.tree_core.specs.Standing.{is_placed}
+use Rattle.tree_core.specs.Tree.{Tree}
+use Rattle.tree_core.specs.Values.{value_of}
+use Rattle.tree_core.proofs.Cases.{if_some, some_same, then_some}
+use Rattle.tree_core.proofs.Fits.{Fits}
+use Rattle.tree_core.proofs.FitsBack.{tree_back}
+use Rattle.tree_core.proofs.ReadFits.{shape_fits}
+
+abbrev if_placed : Tree → Option Tree
+if_placed t = if is_placed t then Some t else None
+
+-- the shape that was read, which is the tree, and it stands where it may
+shape_read : (v : Json) (t : Tree) → tree_of v ≡ Some t → (shape_of v ≡ Some t) × (is_placed t ≡ true)
+unfolding tree_of
+shape_read v t e =
+    let a = then_some if_placed (shape_of v) t e in
+    let b = if_some (is_placed a.0) (Some a.0) t a.2 in
+    let same = some_same a.0 t b.1 in
+    (a.1 ∙ ap Some same, subst (λ x. is_placed x ≡ true) same b.0)
+
+tree_read : (v : Json) (t : Tree) → shape_of v ≡ Some t → is_placed t ≡ true → tree_of v ≡ Some t
+unfolding tree_of
+tree_read v t e p = ap (option_and_then if_placed) e ∙ ap (λ b. if b then Some t else None) p
+
+tree_fits : (v : Json) (t : Tree) → tree_of v ≡ Some t → Fits t
+tree_fits v t e = shape_fits v t (shape_read v t e).0
+
+pub reading_undoes_printing : (v : Json) (t : Tree) → tree_of v ≡ Some t → tree_of (value_of t) ≡ Some t
+reading_undoes_printing v t e = tree_read (value_of t) t (tree_back t (tree_fits v t e)).0 (shape_read v t e).1
+
+pub tree_has_text : (v : Json) (t : Tree) → tree_of v ≡ Some t → HasText (value_of t)
+tree_has_text v t e = (tree_back t (tree_fits v t e)).1
+
+pub printed_text_reads : PrintedTextReads
+printed_text_reads l v t e = text_reads_alone l (value_of t) (tree_has_text v t e)

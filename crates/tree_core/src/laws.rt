@@ -1,0 +1,16 @@
+//! What reading and printing are to each other. The functions here do nothing: each has a law as its
+//! contract.
+
+ghost use Rattle.tree_core.specs.Laws.{PrintedTextReads, ReadingUndoesPrinting};
+
+/// The law that reading undoes printing: a tree that is read from some value is read from the value
+/// that is printed of it, and is the same tree.
+pub fn reading_undoes_printing()
+    ensures { ReadingUndoesPrinting }
+{}
+
+/// The law that what is printed of a tree reads as its value: in each layout the text of the value
+/// reads, by the grammar of JSON (RFC 8259), as that value and as no other.
+pub fn printed_text_reads()
+    ensures { PrintedTextReads }
+{}
