@@ -15,3 +15,6 @@ pub mod Reading
 pub mod JsonOf
 pub mod Values
 pub mod Laws
+pub mod Limits
+pub mod Readable
+pub mod ReadError

@@ -81,13 +81,32 @@ pub enum Kind {
 }
 
 impl Kind {
-    ghost use Rattle.tree_core.specs.Kinds.{kind_number};
+    ghost use Rattle.tree_core.specs.Kinds.{kind_number, is_in, is_kind};
 
     /// Its place among the kinds, from 0. Numbers never move.
     pub fn number(self) -> u8
         ensures { result ≡ kind_number self }
     {
         self as u8
+    }
+
+    #[tactic(auto, unfolding(crate::specs::Kinds::is_kind))]
+    pub(crate) fn is(self, other: Kind) -> bool
+        ensures { result ≡ is_kind self other }
+    {
+        self.number() == other.number()
+    }
+
+    #[tactic(auto, unfolding(crate::specs::Kinds::is_in, crate::specs::Kinds::is_kind))]
+    pub(crate) fn is_among(self, kinds: &[Kind]) -> bool
+        ensures { result ≡ is_in self kinds.now }
+    {
+        for kind in kinds {
+            if kind.number() == self.number() {
+                return true;
+            }
+        }
+        false
     }
 }
 

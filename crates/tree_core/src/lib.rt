@@ -4,14 +4,20 @@
 
 mod kind;
 mod laws;
+mod limits;
+mod literals;
 mod node;
+mod read;
+mod roles;
 mod rows;
+mod standing;
 mod table;
 mod text;
 
 pub use kind::{KINDS, Kind};
 pub use laws::{printed_text_reads, reading_undoes_printing};
 pub use node::{Field, FieldList, Node, NodeList};
+pub use read::ReadError;
 pub use rows::{row, row_named};
 pub use table::{
     Class, Column, Declared, Group, Mark, Mode, Opens, Role, Row, Strict, Words, word_list,

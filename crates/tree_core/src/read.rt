@@ -1,0 +1,431 @@
+//! The reader: the tree that a JSON value is.
+
+ghost use Rattle.std.specs.Prelude.{◌≡◌, List, [], ◌∷◌, ◌++◌, Some, None, true, IsTrue, map, option_map, option_and_then, length, ◌≤◌, OnOk, IfOk, IfErr, IfSome};
+ghost use Rattle.serde_json.specs.Data.{depth, members_depth};
+ghost use Rattle.serde_json.specs.View.{view, items_view, members_view};
+ghost use Rattle.json_text.specs.Units.{units_of};
+ghost use Rattle.tree_core.specs.JsonOf.{json_of};
+ghost use Rattle.tree_core.specs.JsonOf as json;
+ghost use Rattle.tree_core.specs.Readable.{is_ascii, is_readable, are_readable, field_from, fields_in, item_from};
+ghost use Rattle.tree_core.specs.ReadError.{Says};
+ghost use Rattle.tree_core.specs.Reading as reading;
+ghost use Rattle.tree_core.specs.Rows.{row_of, column_of};
+ghost use Rattle.tree_core.specs.Supported as spec;
+ghost use Rattle.tree_core.specs.Table.{word_list};
+ghost use Rattle.json_text.specs.Json.{object};
+ghost use Rattle.tree_core.specs.Tree.{text, many, done, alone};
+ghost use Rattle.tree_core.specs.Views.{part_of, parts_of, item_of, items_of};
+
+use crate::kind::Kind;
+use crate::node::{Field, FieldList, Node, NodeList};
+use crate::rows::row_named;
+use crate::table::{Class, Column, Row, Words, word_list};
+use crate::text::TreeText;
+use serde_json::{Map, Value};
+use std::alloc::{AllocError, AllocFailed, Global};
+use thiserror::Error;
+
+/// Why a value was not read.
+#[derive(Debug, Drop, Error)]
+pub enum ReadError {
+    /// Its objects, an array or a text pass the limits.
+    #[error("too large")]
+    TooLarge,
+    /// It is not the ESTree of a program.
+    #[error("bad tree")]
+    BadTree,
+    #[error("out of memory")]
+    Memory,
+}
+
+impl From<AllocError> for ReadError {
+    ghost use Rattle.std.specs.Prelude.{◌≡◌};
+    ghost use Rattle.tree_core.specs.declared.read.ReadError.TheVariants.{Memory};
+
+    ghost from_gives = { λ _ e. e ≡ Memory };
+
+    fn from(_error: AllocError) -> ReadError {
+        ReadError::Memory
+    }
+}
+
+impl<T: Drop> From<AllocFailed<T>> for ReadError {
+    ghost use Rattle.std.specs.Prelude.{◌≡◌};
+    ghost use Rattle.tree_core.specs.declared.read.ReadError.TheVariants.{Memory};
+
+    ghost from_gives = { λ _ e. e ≡ Memory };
+
+    fn from(_error: AllocFailed<T>) -> ReadError {
+        ReadError::Memory
+    }
+}
+
+// The member with this key.
+fn member<'v>(members: &'v Map<String, Value>, key: &str) -> Option<&'v Value>
+    requires { IsTrue (is_ascii key.now) }
+    ensures found { option_map (λ v. json_of (view v.now)) result
+        ≡ reading.find_member key.now (json.members_of (members_view members.now.entries)) }
+    ensures smaller { IfSome result
+        (λ v. depth (view v.now) ≤ members_depth (members_view members.now.entries)) }
+{
+    members.get(key)
+}
+
+fn text_in(value: &Value) -> Option<&str>
+    ensures { option_map (λ s. s.now) result ≡ reading.text_in (json_of (view value.now)) }
+{
+    match value {
+        Value::String(text) => Some(text.as_str()),
+        _ => None,
+    }
+}
+
+// A whole number below a bound.
+fn below(bound: u64, value: &Value) -> Option<u64>
+    ensures { result ≡ reading.below bound (json_of (view value.now)) }
+{
+    match value {
+        Value::Number(number) => match number.as_u64() {
+            Some(n) if n < bound => Some(n),
+            _ => None,
+        },
+        _ => None,
+    }
+}
+
+// Where a node begins or ends: 0 where nothing is said.
+fn offset(value: Option<&Value>) -> Option<u32>
+    ensures { result ≡ reading.offset_of (option_map (λ v. json_of (view v.now)) value.entry) }
+{
+    match value {
+        Some(value) => Some(below(4_294_967_296, value)? as u32),
+        None => Some(0),
+    }
+}
+
+fn word_number(words: &[&str], text: &str) -> Option<u8>
+    requires { length words.now ≤ 256 }
+    ensures { result ≡ reading.word_number (map (λ w. w.now) words.now) text.now }
+{
+    for (i, word) in words.iter().enumerate() {
+        if *word == text {
+            return Some(i as u8);
+        }
+    }
+    None
+}
+
+// What a field that isn't listed may hold.
+fn is_blank(value: &Value) -> bool
+    ensures { result ≡ reading.is_blank (json_of (view value.now)) }
+{
+    match value {
+        Value::Null => true,
+        Value::Bool(b) => !*b,
+        Value::Array(items) => items.as_slice().is_empty(),
+        _ => false,
+    }
+}
+
+fn is_null(value: &Value) -> bool
+    ensures { result ≡ reading.is_null_value (json_of (view value.now)) }
+{
+    matches!(value, Value::Null)
+}
+
+fn is_object(value: Option<&Value>) -> bool
+    ensures { result
+        ≡ reading.is_object (option_map (λ v. json_of (view v.now)) value.entry) }
+{
+    matches!(value, Some(Value::Object(_)))
+}
+
+// The key under which a node's object has the field.
+fn outer_key(column: &Column) -> &'static str
+    ensures { result.now ≡ reading.outer_key (column_of column.now) }
+{
+    match column.class {
+        Class::Pattern | Class::Flags => "regex",
+        Class::Raw | Class::Cooked => "value",
+        _ => column.key,
+    }
+}
+
+// Whether a node with these columns has a field under the key.
+fn is_known(key: &str, columns: &[Column]) -> bool
+    requires { IsTrue (are_readable (map column_of columns.now)) }
+    ensures { result ≡ reading.is_known (units_of key.now) (map column_of columns.now) }
+{
+    key == "type" || key == "start" || key == "end" || is_listed(key, columns)
+}
+
+fn is_listed(key: &str, columns: &[Column]) -> bool
+    ensures { result ≡ reading.is_listed key.now (map column_of columns.now) }
+{
+    for column in columns {
+        if outer_key(column) == key {
+            return true;
+        }
+    }
+    false
+}
+
+// Whether each member is a field of these columns, or blank.
+fn only_known(columns: &[Column], members: &Map<String, Value>) -> bool
+    requires { IsTrue (are_readable (map column_of columns.now)) }
+    ensures known { result ≡ reading.only_known (map column_of columns.now)
+        (json.members_of (members_view members.now.entries)) }
+    ensures distinct { reading.are_distinct (json.members_of (members_view members.now.entries))
+        ≡ true }
+{
+    for (key, member) in members.iter() {
+        if !is_known(key.as_str(), columns) && !is_blank(member) {
+            return false;
+        }
+    }
+    true
+}
+
+// A Literal has an object as its value only beside `regex`.
+fn is_paired(kind: Kind, members: &Map<String, Value>) -> bool
+    ensures { result ≡ reading.is_paired kind (json.members_of (members_view members.now.entries)) }
+{
+    kind.number() != Kind::Literal.number()
+        || !is_object(member(members, "value"))
+        || is_object(member(members, "regex"))
+}
+
+// The row of the object's kind, where the reader takes it.
+fn row_for(members: &Map<String, Value>) -> Option<&'static Row>
+    ensures row { option_map (λ r. row_of r.now) result
+        ≡ reading.row_for (json.members_of (members_view members.now.entries)) }
+    ensures readable { IfSome result
+        (λ r. IsTrue (are_readable (map column_of r.now.columns.now))) }
+{
+    let row = row_named(text_in(member(members, "type")?)?)?;
+    if is_supported(row.kind) {
+        Some(row)
+    } else {
+        None
+    }
+}
+
+// The kinds of nodes that the reader takes.
+const SUPPORTED: [Kind; 1] = [Kind::Program];
+
+#[tactic(auto, unfolding(crate::specs::Supported::is_supported))]
+fn is_supported(kind: Kind) -> bool
+    ensures { result ≡ spec.is_supported kind }
+{
+    kind.is_among(&SUPPORTED)
+}
+
+// A field that is missing.
+fn absent(alloc: Global, class: Class) -> Result<Field, ReadError>
+    ensures ok { IfOk result (λ f. reading.absent class ≡ Some (part_of f)) }
+    ensures err { IfErr result (λ e. Says e (reading.absent class ≡ None)) }
+{
+    match class {
+        Class::Flag => Ok(Field::Flag(false)),
+        Class::TextOr | Class::Maybe(_) | Class::LiteralValue | Class::Pattern | Class::Flags => Ok(
+            Field::Empty,
+        ),
+        Class::ManyOr(_) => Ok(Field::List(NodeList::from_vec(Vec::new(alloc)))),
+        _ => Err(ReadError::BadTree),
+    }
+}
+
+// The number of the word that a value is.
+fn word_in(words: Words, value: &Value) -> Option<u8>
+    ensures { result ≡ option_and_then (reading.word_number (word_list words))
+        (reading.text_in (json_of (view value.now))) }
+{
+    word_number(word_list(words), text_in(value)?)
+}
+
+fn read_text(alloc: Global, value: &Value) -> Result<Field, ReadError>
+    ensures ok { IfOk result (λ f. option_map (λ x. reading.one (text x))
+        (reading.text_in (json_of (view value.now))) ≡ Some (part_of f)) }
+    ensures err { IfErr result (λ e. Says e (option_map (λ x. reading.one (text x))
+        (reading.text_in (json_of (view value.now))) ≡ None)) }
+{
+    match text_in(value) {
+        Some(text) => Ok(Field::Text(TreeText::from_string(String::from_str(alloc, text)?))),
+        None => Err(ReadError::BadTree),
+    }
+}
+
+/// The node that an object is, as far as its shape goes.
+#[cycle(read)]
+fn read_node(alloc: Global, value: &Value) -> Result<Node, ReadError>
+    ensures ok { IfOk result (λ n. reading.shape_of (json_of (view value.now)) ≡ Some n) }
+    ensures err { IfErr result (λ e. Says e (reading.shape_of (json_of (view value.now)) ≡ None)) }
+{
+    match value {
+        Value::Object(members) => read_object(alloc, members),
+        _ => Err(ReadError::BadTree),
+    }
+}
+
+#[cycle(read)]
+fn read_object(alloc: Global, members: &Map<String, Value>) -> Result<Node, ReadError>
+    ensures ok { IfOk result (λ n.
+        reading.shape_of (object (json.members_of (members_view members.now.entries))) ≡ Some n) }
+    ensures err { IfErr result (λ e. Says e
+        (reading.shape_of (object (json.members_of (members_view members.now.entries))) ≡ None)) }
+{
+    let Some(row) = row_for(members) else {
+        return Err(ReadError::BadTree);
+    };
+    let Some(start) = offset(member(members, "start")) else {
+        return Err(ReadError::BadTree);
+    };
+    let Some(end) = offset(member(members, "end")) else {
+        return Err(ReadError::BadTree);
+    };
+    if !only_known(row.columns, members) || !is_paired(row.kind, members) {
+        return Err(ReadError::BadTree);
+    }
+    let fields = read_fields(alloc, members, row.columns)?;
+    Ok(Node {
+        kind: row.kind,
+        start,
+        end,
+        fields: FieldList::from_vec(fields),
+    })
+}
+
+#[cycle(read)]
+fn read_fields(
+    alloc: Global,
+    members: &Map<String, Value>,
+    columns: &[Column],
+) -> Result<Vec<Field>, ReadError>
+    requires { IsTrue (are_readable (map column_of columns.now)) }
+    ensures ok { IfOk result (λ fs. fields_in (json.members_of (members_view members.now.entries))
+        (map column_of columns.now) ≡ Some (parts_of fs.items)) }
+    ensures err { IfErr result
+        (λ e. Says e (fields_in (json.members_of (members_view members.now.entries))
+        (map column_of columns.now) ≡ None)) }
+{
+    let mut fields = Vec::with_capacity(alloc, columns.len())?;
+    for column in columns {
+        fields.push(read_member(alloc, members, column)?)?;
+    }
+    Ok(fields)
+}
+
+#[cycle(read)]
+fn read_member(
+    alloc: Global,
+    members: &Map<String, Value>,
+    column: &Column,
+) -> Result<Field, ReadError>
+    requires { IsTrue (is_readable (column_of column.now)) }
+    ensures ok { IfOk result
+        (λ f. reading.part_in (json.members_of (members_view members.now.entries))
+        (column_of column.now) ≡ Some (part_of f)) }
+    ensures err { IfErr result
+        (λ e. Says e (reading.part_in (json.members_of (members_view members.now.entries))
+        (column_of column.now) ≡ None)) }
+{
+    match member(members, outer_key(column)) {
+        Some(value) => read_part(alloc, value, column),
+        None => absent(alloc, column.class),
+    }
+}
+
+// The field that a value is in a column.
+#[cycle(read)]
+fn read_part(alloc: Global, value: &Value, column: &Column) -> Result<Field, ReadError>
+    requires { IsTrue (is_readable (column_of column.now)) }
+    ensures ok { IfOk result
+        (λ f. field_from (column_of column.now) (json_of (view value.now)) ≡ Some (part_of f)) }
+    ensures err { IfErr result
+        (λ e. Says e (field_from (column_of column.now) (json_of (view value.now)) ≡ None)) }
+{
+    match column.class {
+        Class::Flag => match value {
+            Value::Bool(flag) => Ok(Field::Flag(*flag)),
+            _ => Err(ReadError::BadTree),
+        },
+        Class::Word(words) => match word_in(words, value) {
+            Some(number) => Ok(Field::Word(number)),
+            None => Err(ReadError::BadTree),
+        },
+        Class::Text => read_text(alloc, value),
+        Class::TextOr => {
+            if is_null(value) {
+                Ok(Field::Empty)
+            } else {
+                read_text(alloc, value)
+            }
+        }
+        Class::One(_) => read_child(alloc, value),
+        Class::Maybe(_) => {
+            if is_null(value) {
+                Ok(Field::Empty)
+            } else {
+                read_child(alloc, value)
+            }
+        }
+        Class::Many(_) | Class::ManyOr(_) => read_list(alloc, value, false),
+        Class::Holes(_) => read_list(alloc, value, true),
+        _ => Err(ReadError::BadTree),
+    }
+}
+
+#[cycle(read)]
+fn read_child(alloc: Global, value: &Value) -> Result<Field, ReadError>
+    ensures ok { IfOk result (λ f.
+        option_map alone (reading.shape_of (json_of (view value.now))) ≡ Some (part_of f)) }
+    ensures err { IfErr result (λ e. Says e
+        (option_map alone (reading.shape_of (json_of (view value.now))) ≡ None)) }
+{
+    Ok(Field::Child(Box::new(alloc, read_node(alloc, value)?)?))
+}
+
+#[cycle(read)]
+fn read_list(alloc: Global, value: &Value, holes: bool) -> Result<Field, ReadError>
+    ensures ok { IfOk result (λ f. option_map (λ us. many us done)
+        (reading.list_of (json_of (view value.now)) holes) ≡ Some (part_of f)) }
+    ensures err { IfErr result (λ e. Says e (option_map (λ us. many us done)
+        (reading.list_of (json_of (view value.now)) holes) ≡ None)) }
+{
+    match value {
+        Value::Array(items) => Ok(Field::List(NodeList::from_vec(read_items(alloc, items, holes)?))),
+        _ => Err(ReadError::BadTree),
+    }
+}
+
+#[cycle(read)]
+fn read_items(
+    alloc: Global,
+    items: &Vec<Value>,
+    holes: bool,
+) -> Result<Vec<Option<Node>>, ReadError>
+    ensures ok { IfOk result (λ ns.
+        reading.items_from (json.items_of (items_view items.now.items)) holes
+        ≡ Some (items_of ns.items)) }
+    ensures err { IfErr result (λ e. Says e
+        (reading.items_from (json.items_of (items_view items.now.items)) holes ≡ None)) }
+{
+    let mut nodes = Vec::with_capacity(alloc, items.len())?;
+    for item in items {
+        nodes.push(read_item(alloc, item, holes)?)?;
+    }
+    Ok(nodes)
+}
+
+#[cycle(read)]
+fn read_item(alloc: Global, value: &Value, holes: bool) -> Result<Option<Node>, ReadError>
+    ensures ok { IfOk result
+        (λ n. item_from holes (json_of (view value.now)) ≡ Some (item_of n)) }
+    ensures err { IfErr result
+        (λ e. Says e (item_from holes (json_of (view value.now)) ≡ None)) }
+{
+    if holes && is_null(value) {
+        return Ok(None);
+    }
+    Ok(Some(read_node(alloc, value)?))
+}
