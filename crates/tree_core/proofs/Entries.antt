@@ -1,12 +1,12 @@
 -- The members of a node's object, entry by entry: what is under a key, and the fields that are read from it.
-use Rattle.std.proofs.Common.{◌≡◌, ℕ, List, [], ◌∷◌, ◌++◌, Bool, true, false, not, ◌&&◌, ◌||◌, Option, Some, None, option_map, option_and_then, is_some, if◌then◌else◌, refl, sym, ap, ◌∙◌, subst, bytes_eq, true≢false, ◌⊎◌, inl, inr, ⊎_elim, codes}
+use Rattle.std.proofs.Common.{◌≡◌, ℕ, List, [], ◌∷◌, ◌++◌, Bool, true, false, ◌||◌, Option, Some, None, option_map, option_and_then, refl, sym, ap, ◌∙◌, bytes_eq, true≢false}
 use Rattle.json_text.specs.Json.{Json, Members, no_members, member}
 use Rattle.json_text.specs.HasText.{AreCodeUnits, HasText, MembersHaveText}
 use Rattle.tree_core.specs.Look.{onto}
-use Rattle.tree_core.specs.Reading.{are_distinct, find_member, is_blank, is_known, is_listed, only_known, outer_key, part_in, run_of}
+use Rattle.tree_core.specs.Reading.{are_distinct, find_member, is_listed, only_known, outer_key, part_in, run_of}
 use Rattle.tree_core.specs.Table.{Column}
 use Rattle.tree_core.specs.Tree.{Parts, atom, child, done, many}
-use Rattle.tree_core.proofs.Cases.{both, bytes_differ, bytes_equal, bytes_same, bytes_turned, map_some, neither, or_true, some_same, then_some}
+use Rattle.tree_core.proofs.Cases.{bytes_differ, bytes_same, bytes_turned, map_some, neither, or_true, some_same, then_some}
 use Rattle.tree_core.proofs.Found.{part_found, part_in-part_found}
 
 -- a column, and what is read from it
@@ -118,7 +118,8 @@ cells_read : (k : List ℕ) (o : Option Json) (cs : List Cell) (ms : Members) �
     → run_of (λ c. part_in ms c) (columns_of cs) ≡ Some (parts_of cs)
 cells_read k o [] ms r e = refl
 cells_read k o (c ∷ cs) ms r e =
-    let here : part_in ms c.column ≡ Some c.part = part_in-part_found ms c.column ∙ ap (λ x. part_found c.column (find_member x ms)) r.0 ∙ ap (part_found c.column) e ∙ r.1 in
+    let here : part_in ms c.column ≡ Some c.part =
+    part_in-part_found ms c.column ∙ ap (λ x. part_found c.column (find_member x ms)) r.0 ∙ ap (part_found c.column) e ∙ r.1 in
     rw (here, cells_read k o cs ms r.2 e) refl
 
 -- ---- all keys
@@ -127,7 +128,8 @@ pub not_found : (k : List ℕ) (es : List Entry) → AreEntries es → is_listed
     → find_member k (all_members es) ≡ None
 not_found k [] a h = refl
 not_found k (e ∷ es) a h =
-    let n = neither (is_listed k (columns_of e.cells)) (is_listed k (all_columns es)) (sym (is_listed-append k (columns_of e.cells) (all_columns es)) ∙ h) in
+    let one = is_listed k (columns_of e.cells) in
+    let n = neither one (is_listed k (all_columns es)) (sym (is_listed-append k (columns_of e.cells) (all_columns es)) ∙ h) in
     find_past k e.key e.value (all_members es) (listed_apart e.key k (columns_of e.cells) a.0.listed n.0)
     ∙ not_found k es a.2 n.1
 
@@ -143,7 +145,8 @@ entries_read (e ∷ es) ms a h =
     let later : (k : List ℕ) → is_listed k (all_columns es) ≡ true → find_member k ms ≡ find_member k (all_members es) =
     λ k l. h k (listed_later k (columns_of e.cells) (all_columns es) l)
     ∙ find_past k e.key e.value (all_members es) (bytes_turned k e.key (listed_apart k e.key (all_columns es) l a.1)) in
-    run_of-append (λ c. part_in ms c) (columns_of e.cells) (all_columns es) (parts_of e.cells) (all_parts es) (cells_read e.key e.value e.cells ms a.0.read found) (entries_read es ms a.2 later)
+    run_of-append (λ c. part_in ms c) (columns_of e.cells) (all_columns es) (parts_of e.cells) (all_parts es)
+    (cells_read e.key e.value e.cells ms a.0.read found) (entries_read es ms a.2 later)
 
 put_distinct : (k : List ℕ) (o : Option Json) (more : Members) → find_member k more ≡ None → are_distinct more ≡ true
     → are_distinct (put k o more) ≡ true

@@ -1,6 +1,6 @@
 -- Trees whose parts fit the node table: each field is one that its column can be read as. What is read is such a tree,
 -- and the value of such a tree is read as it.
-use Rattle.std.specs.Prelude.{ℕ, ◌^◌, ◌<◌, ◌≡◌, List, [], ◌∷◌, Bool, true, false, Option, Some, None, option_map, if◌then◌else◌}
+use Rattle.std.specs.Prelude.{ℕ, ◌^◌, ◌<◌, ◌≡◌, List, [], ◌∷◌, Bool, true, false, Option, Some, None, option_map}
 use Rattle.json_text.specs.Json.{Json}
 use Rattle.json_text.specs.HasText.{HasText}
 use Rattle.tree_core.specs.Reading.{is_null_value, one, or_null, text_in, units_in, part_from, holder}
@@ -22,7 +22,8 @@ inner_part c d t ts = part_from c [] d t ts
 
 -- a field that is no node: its value is read as it, and has a text
 abbrev pub FitsAtom : FieldClass → Atom → Type 0
-FitsAtom c a = ((t : Option Tree) (ts : Bool → Option Parts) → inner_part c (atom_value c a) t ts ≡ Some (one a)) × HasText (atom_value c a)
+FitsAtom c a =
+    ((t : Option Tree) (ts : Bool → Option Parts) → inner_part c (atom_value c a) t ts ≡ Some (one a)) × HasText (atom_value c a)
 
 -- a pattern stands where flags do
 abbrev pub FitsNext : FieldClass → Atom → Parts → Type 0
@@ -31,11 +32,13 @@ FitsNext _ a more = Unit {0}
 
 -- a class that takes a node
 abbrev pub TakesNode : FieldClass → Type 0
-TakesNode c = (holder c ≡ None) × ((k : List ℕ) (d : Json) (t : Tree) (ts : Bool → Option Parts) → is_null_value d ≡ false → part_from c k d (Some t) ts ≡ Some (alone t))
+TakesNode c = (holder c ≡ None) × ((k : List ℕ) (d : Json) (t : Tree) (ts : Bool → Option Parts) → is_null_value d ≡ false
+    → part_from c k d (Some t) ts ≡ Some (alone t))
 
 -- a class that takes a list, with holes or without
 abbrev pub TakesList : FieldClass → Bool → Type 0
-TakesList c holes = (holder c ≡ None) × ((k : List ℕ) (d : Json) (t : Option Tree) (ts : Bool → Option Parts) → part_from c k d t ts ≡ option_map (λ us. many us done) (ts holes))
+TakesList c holes = (holder c ≡ None) × ((k : List ℕ) (d : Json) (t : Option Tree) (ts : Bool → Option Parts)
+    → part_from c k d t ts ≡ option_map (λ us. many us done) (ts holes))
 
 abbrev pub FitsHead : Kind → ℕ → ℕ → Type 0
 FitsHead kind start stop = (is_supported kind ≡ true) × (start < 2 ^ 32) × (stop < 2 ^ 32)
@@ -48,7 +51,8 @@ abbrev mutual
   FitFields (atom a more) [] = ⊥
   FitFields (atom a more) (c ∷ cs) = FitsAtom c.class a × FitsNext c.class a more × FitFields more cs
   FitFields (child k s e fields more) [] = ⊥
-  FitFields (child k s e fields more) (c ∷ cs) = TakesNode c.class × FitsHead k s e × FitFields fields (row k).columns × FitFields more cs
+  FitFields (child k s e fields more) (c ∷ cs) =
+      TakesNode c.class × FitsHead k s e × FitFields fields (row k).columns × FitFields more cs
   FitFields (many items more) [] = ⊥
   FitFields (many items more) (c ∷ cs) = (holes : Bool) × TakesList c.class holes × FitItems items holes × FitFields more cs
 

@@ -1,27 +1,25 @@
 -- A tree that fits the node table is read from its value, and that value has a text.
-use Rattle.std.proofs.Common.{◌≡◌, ℕ, ◌^◌, ◌<◌, ◌≤◌, pos, List, [], ◌∷◌, ◌++◌, Bool, true, false, not, ◌&&◌, ◌||◌, Option, Some, None, option_map, option_and_then, if◌then◌else◌, refl, sym, ap, ◌∙◌, subst, arith, bytes_eq, true≢false, codes, lt-ltb}
-use Rattle.json_text.specs.Json.{Json, null, truth, whole as number, other_number, string, list, object, Items, no_items, item, Members, no_members, member}
-use Rattle.json_text.specs.HasText.{AreCodeUnits, HasText, ItemsHaveText, MembersHaveText}
-use Rattle.json_text.specs.Units.{are_code_units, text_of_units}
+use Rattle.std.proofs.Common.{◌≡◌, ℕ, ◌^◌, ◌<◌, pos, List, [], ◌∷◌, Bool, true, false, not, ◌||◌, Option, Some, None, option_map, option_and_then, if◌then◌else◌, refl, sym, ap, ◌∙◌, subst, arith, bytes_eq, codes, lt-ltb}
+use Rattle.json_text.specs.Json.{Json, null, truth, whole as number, string, list, Items, item, Members, member}
+use Rattle.json_text.specs.HasText.{HasText, ItemsHaveText, MembersHaveText}
 use Rattle.json_text.proofs.Units.{AreCodeUnits-are_code_units, AreCodeUnits-text_of_units}
 use Rattle.tree_core.specs.Look.{onto}
-use Rattle.tree_core.specs.Reading.{absent, are_distinct, find_member, has_only, holder, is_listed, is_null_value, is_object, is_paired, items_from, list_of, offset_of, one, only_known, or_hole, or_null, outer_key, part_from, part_in, regex_part, row_for, run_of, shape_from, shape_of, supported_row, template_part, text_in, units_in}
+use Rattle.tree_core.specs.Reading.{are_distinct, find_member, is_listed, is_null_value, is_object, is_paired, items_from, list_of, offset_of, one, only_known, or_hole, part_from, part_in, row_for, run_of, shape_from, shape_of, supported_row}
 use Rattle.tree_core.specs.Supported.{is_supported}
-use Rattle.tree_core.specs.Table.{Column, Row, row, row_named}
-use Rattle.tree_core.specs.Tree.{Atom, Parts, Tree, alone, atom, child, done, empty, flag, is_empty, many, text, units, whole, word}
-use Rattle.tree_core.specs.Values.{atom_value, fields_value, held, is_null_atom, items_value, node_value, put_member, value_of, without_next}
+use Rattle.tree_core.specs.Table.{Column, Row, row}
+use Rattle.tree_core.specs.Tree.{Atom, Parts, Tree, alone, atom, child, done, empty, flag, many, text, units, whole, word}
+use Rattle.tree_core.specs.Values.{atom_value, fields_value, items_value, node_value, value_of}
 use Rattle.tree_core.specs.declared.kind.Kind.{Kind}
 use Rattle.tree_core.specs.declared.kind.Kind.TheVariants.{Literal}
 use Rattle.tree_core.specs.declared.table.Class.{Class as FieldClass}
-use Rattle.tree_core.specs.declared.table.Class.TheVariants.{Cooked, Flag, Flags, Holes, LiteralValue, Many, ManyOr, Maybe, Name, One, Pattern, Raw, Text as TextClass, TextOr, Word}
+use Rattle.tree_core.specs.declared.table.Class.TheVariants.{LiteralValue}
 use Rattle.tree_core.proofs.Ascii.{text_of_ascii}
-use Rattle.tree_core.proofs.Cases.{both, bytes_differ, bytes_equal, bytes_same, bytes_turned, none_some, not_true, or_true, some_same}
-use Rattle.tree_core.proofs.Entries.{AreEntries, Cell, Entry, HasOptionText, IsEntry, all_columns, all_members, all_parts, columns_of, parts_of, entries_distinct, entries_known, entries_read, entries_text, listed_apart, not_found, put}
-use Rattle.tree_core.proofs.Classes.{IsPlain, Sort, is_empty-atom, key_of_class, never_takes, of_cooked, of_flags, of_pattern, of_plain, of_raw, own_key, plain_class, put_at, sort_of, is_cooked-Cooked, is_flags-Flags}
-use Rattle.tree_core.proofs.Fits.{FitFields, FitItems, Fits, FitsAtom, FitsHead, FitsNext, TakesList, TakesNode, inner_part}
-use Rattle.tree_core.proofs.Found.{part_found, part_in-part_found}
+use Rattle.tree_core.proofs.Cases.{bytes_turned}
+use Rattle.tree_core.proofs.Entries.{AreEntries, Entry, all_columns, all_members, all_parts, entries_distinct, entries_known, entries_read, entries_text, listed_apart, not_found}
+use Rattle.tree_core.proofs.Classes.{sort_of}
+use Rattle.tree_core.proofs.Fits.{FitFields, FitItems, Fits, FitsHead, TakesList, TakesNode}
 use Rattle.tree_core.proofs.Listed.{Listed, Tail, atom_listed, nothing, one_more, plain_ordered}
-use Rattle.tree_core.proofs.RowFacts.{are_ordered, is_cooked, is_first, is_flags, is_inner, is_omittable, is_outer, row_kind, row_named-name, row_sound, takes_next}
+use Rattle.tree_core.proofs.RowFacts.{are_ordered, row_kind, row_named-name, row_sound}
 
 -- ---- a node
 

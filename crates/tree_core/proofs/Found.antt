@@ -1,5 +1,5 @@
 -- A field is read from the member under its key.
-use Rattle.std.proofs.Common.{◌≡◌, ℕ, List, Bool, true, false, Option, Some, None, if◌then◌else◌, refl, bytes_eq}
+use Rattle.std.proofs.Common.{◌≡◌, Bool, true, false, Option, Some, None, if◌then◌else◌, refl, bytes_eq}
 use Rattle.json_text.specs.Json.{Json, Members, no_members, member}
 use Rattle.tree_core.specs.Reading.{absent, find_member, list_of, outer_key, part_from, part_in, shape_of}
 use Rattle.tree_core.specs.Table.{Column}
@@ -17,4 +17,5 @@ found_or c false d rest o e = e
 
 pub part_in-part_found : (ms : Members) (c : Column) → part_in ms c ≡ part_found c (find_member (outer_key c) ms)
 part_in-part_found no_members c = refl
-part_in-part_found (member k d ms) c = found_or c (bytes_eq k (outer_key c)) d (part_in ms c) (find_member (outer_key c) ms) (part_in-part_found ms c)
+part_in-part_found (member k d ms) c =
+    found_or c (bytes_eq k (outer_key c)) d (part_in ms c) (find_member (outer_key c) ms) (part_in-part_found ms c)

@@ -1,18 +1,16 @@
 -- What is read fits the node table.
-use Rattle.std.proofs.Common.{◌≡◌, ℕ, zero, suc, ◌+◌, ◌^◌, ◌<◌, ◌≤◌, ℤ, pos, negsuc, List, [], ◌∷◌, get_or, Bool, true, false, cond, not, ◌&&◌, ◌||◌, nat_lt, Option, Some, None, option_map, option_and_then, if◌then◌else◌, refl, sym, ap, ◌∙◌, subst, arith, true≢false, bytes_eq, IsUtf8, IsAscii, ltb-true, lt-ltb, lt_of_lt_of_le, codes}
+use Rattle.std.proofs.Common.{◌≡◌, ℕ, suc, ◌+◌, ◌^◌, ◌<◌, pos, negsuc, List, [], ◌∷◌, get_or, Bool, true, false, cond, ◌&&◌, nat_lt, Option, Some, None, option_map, option_and_then, if◌then◌else◌, refl, sym, ap, ◌∙◌, subst, arith, true≢false, bytes_eq, IsUtf8, ltb-true, lt-ltb, codes}
 use Rattle.std.specs.List.{list_all, position_from}
-use Rattle.std.proofs.lemmas.Str.{IsUtf8-from_ascii}
 use Rattle.json_text.specs.Json.{Json, null, truth, whole as number, other_number, string, list, object, Items, no_items, item, Members, no_members, member}
-use Rattle.json_text.specs.HasText.{AreCodeUnits, HasText}
+use Rattle.json_text.specs.HasText.{AreCodeUnits}
 use Rattle.json_text.specs.Units.{are_code_units, text_of_units, units_of}
-use Rattle.json_text.proofs.Units.{text_of_units-units_of, IsUtf8-text_of_units, AreCodeUnits-units_of, AreCodeUnits-are_code_units, are_code_units-AreCodeUnits, units_of-IsAscii, AreCodeUnits-text_of_units}
+use Rattle.json_text.proofs.Units.{text_of_units-units_of, IsUtf8-text_of_units, AreCodeUnits-units_of, AreCodeUnits-are_code_units, are_code_units-AreCodeUnits, AreCodeUnits-text_of_units}
 use Rattle.syntax_lex.specs.Identifier.{is_identifier_name}
 use Rattle.tree_core.specs.Look.{onto}
-use Rattle.tree_core.specs.Reading.{absent, are_distinct, below, find_member, has_only, is_null_value, is_paired, items_from, list_of, offset_of, one, only_known, or_hole, or_null, outer_key, part_from, part_in, regex_part, row_for, run_of, shape_from, shape_of, supported_row, template_part, text_in, units_in, units_in_list, value_part, word_number, holder}
+use Rattle.tree_core.specs.Reading.{absent, are_distinct, below, find_member, has_only, is_null_value, is_paired, items_from, list_of, offset_of, one, only_known, or_hole, or_null, outer_key, part_from, part_in, regex_part, row_for, run_of, shape_from, shape_of, supported_row, template_part, text_in, units_in, units_in_list, value_part, word_number}
 use Rattle.tree_core.specs.Supported.{is_supported}
 use Rattle.tree_core.specs.Table.{Column, Row, row, row_among, row_named, word_list}
 use Rattle.tree_core.specs.Tree.{Atom, Parts, Tree, Text, alone, atom, child, done, empty, flag, is_empty, many, text, units, whole, word}
-use Rattle.tree_core.specs.Values.{atom_value, is_null_atom, word_text}
 use Rattle.tree_core.specs.declared.kind.Kind.{Kind}
 use Rattle.tree_core.specs.declared.table.Class.{Class as FieldClass}
 use Rattle.tree_core.specs.declared.table.Class.TheVariants.{Cooked, Flag, Flags, Holes, LiteralValue, Many, ManyOr, Maybe, Name, One, Pattern, Raw, Text as TextClass, TextOr, Word}
@@ -22,8 +20,8 @@ use Rattle.tree_core.proofs.Cases.{both, if_some, map_some, none_some, some_same
 use Rattle.tree_core.proofs.Found.{part_found, part_in-part_found}
 use Rattle.tree_core.specs.Kinds.{all_kinds}
 use Rattle.tree_core.proofs.Classes.{is_empty-atom, is_flags-Flags, key_of_class}
-use Rattle.tree_core.proofs.Fits.{FitFields, FitItems, Fits, FitsAtom, FitsHead, FitsNext, FitsPart, TakesList, TakesNode, inner_part}
-use Rattle.tree_core.proofs.RowFacts.{are_followed, are_ordered, ascii_words, is_flags, is_followed, row_kind, row_sound}
+use Rattle.tree_core.proofs.Fits.{FitFields, FitItems, Fits, FitsAtom, FitsNext, FitsPart, TakesList, TakesNode}
+use Rattle.tree_core.proofs.RowFacts.{are_followed, ascii_words, is_followed, row_kind, row_sound}
 
 -- ---- values that are no objects
 
@@ -195,13 +193,21 @@ regex_fits c k other_number p none some e = none_some p e
 regex_fits c k (string us) p none some e = none_some p e
 regex_fits c k (list ds) p none some e = none_some p e
 
+-- what is read from a member of a template element's `value`
+abbrev template_found : Bool → Option Json → Option Parts
+template_found optional o = elim o [
+  | None ↦ (if optional then Some (one empty) else None)
+  | Some d ↦ (if optional && is_null_value d then Some (one empty) else option_map (λ us. one (units us)) (units_in d))
+]
+
 template_text : (c : FieldClass) (optional : Bool) (o : Option Json) (p : Parts)
     → (optional ≡ true → FitsPart c (one empty)) → ((us : List ℕ) → AreCodeUnits us → FitsAtom c (units us))
-    → elim o [ None ↦ (if optional then Some (one empty) else None) | Some d ↦ (if optional && is_null_value d then Some (one empty) else option_map (λ us. one (units us)) (units_in d)) ] ≡ Some p
+    → template_found optional o ≡ Some p
     → FitsPart c p
 template_text c true None p none some e = as_part c (one empty) p e (none refl)
 template_text c false None p none some e = none_some p e
-template_text c true (Some d) p none some e = null_or c d (option_map (λ us. one (units us)) (units_in d)) p e (none refl) (λ f. units_part c d p some f)
+template_text c true (Some d) p none some e =
+    null_or c d (option_map (λ us. one (units us)) (units_in d)) p e (none refl) (λ f. units_part c d p some f)
 template_text c false (Some d) p none some e = units_part c d p some e
 
 template_fits : (c : FieldClass) (optional : Bool) (k : List ℕ) (d : Json) (p : Parts)
@@ -259,10 +265,14 @@ module _ (d : Json) (t : Option Tree) (ts : Bool → Option Parts) (node_fits : 
       (λ f. text_part TextOr d p (λ x u. ((λ o us. text_back x u), AreCodeUnits-units_of x u)) f)
   part_fits Name k p e = name_fits d p e
   part_fits LiteralValue k p e = value_fits d p e
-  part_fits Pattern k p e = regex_fits Pattern k d p ((λ o us. refl), tt) (λ x u. ((λ o us. text_back x u), AreCodeUnits-units_of x u)) e
-  part_fits Flags k p e = regex_fits Flags k d p ((λ o us. refl), tt) (λ x u. ((λ o us. text_back x u), AreCodeUnits-units_of x u)) e
-  part_fits Raw k p e = template_fits Raw false k d p (λ n. absurd (true≢false (sym n))) (λ x a. ((λ o us. units_back x a), a)) e
-  part_fits Cooked k p e = template_fits Cooked true k d p (λ n. ((λ o us. refl), tt)) (λ x a. ((λ o us. units_back x a), a)) e
+  part_fits Pattern k p e =
+      regex_fits Pattern k d p ((λ o us. refl), tt) (λ x u. ((λ o us. text_back x u), AreCodeUnits-units_of x u)) e
+  part_fits Flags k p e =
+      regex_fits Flags k d p ((λ o us. refl), tt) (λ x u. ((λ o us. text_back x u), AreCodeUnits-units_of x u)) e
+  part_fits Raw k p e =
+      template_fits Raw false k d p (λ n. absurd (true≢false (sym n))) (λ x a. ((λ o us. units_back x a), a)) e
+  part_fits Cooked k p e =
+      template_fits Cooked true k d p (λ n. ((λ o us. refl), tt)) (λ x a. ((λ o us. units_back x a), a)) e
   part_fits (One g) k p e = node_part (One g) p (refl, λ l v u us h. refl) e
   part_fits (Maybe g) k p e =
       null_or (Maybe g) d (option_map alone t) p e ((λ o us. refl), tt)
@@ -289,7 +299,8 @@ is_empty-onto c (many items rest) more f = refl
 
 -- a pattern and flags are both there, or neither
 abbrev AreTogether : (Column → Option Parts) → Type 0
-AreTogether part = (c d : Column) (p q : Parts) → c.class ≡ Pattern → d.class ≡ Flags → part c ≡ Some p → part d ≡ Some q → is_empty p ≡ is_empty q
+AreTogether part = (c d : Column) (p q : Parts) → c.class ≡ Pattern → d.class ≡ Flags → part c ≡ Some p → part d ≡ Some q
+    → is_empty p ≡ is_empty q
 
 abbrev AllFit : (Column → Option Parts) → Type 0
 AllFit part = (c : Column) (p : Parts) → part c ≡ Some p → FitsPart c.class p
@@ -347,13 +358,15 @@ pattern_empty : (c : Column) (o : Option Json) (p : Parts) → c.class ≡ Patte
     → is_empty p ≡ no_regex o
 unfolding no_regex
 pattern_empty c None p same e = sym (ap is_empty (some_same (one empty) p (sym (ap absent same) ∙ e)))
-pattern_empty c (Some d) p same e = regex_empty c.key d p (sym (ap (λ x. part_from x c.key d (shape_of d) (list_of d)) same) ∙ e)
+pattern_empty c (Some d) p same e =
+    regex_empty c.key d p (sym (ap (λ x. part_from x c.key d (shape_of d) (list_of d)) same) ∙ e)
 
 flags_empty : (c : Column) (o : Option Json) (p : Parts) → c.class ≡ Flags → part_found c o ≡ Some p
     → is_empty p ≡ no_regex o
 unfolding no_regex
 flags_empty c None p same e = sym (ap is_empty (some_same (one empty) p (sym (ap absent same) ∙ e)))
-flags_empty c (Some d) p same e = regex_empty c.key d p (sym (ap (λ x. part_from x c.key d (shape_of d) (list_of d)) same) ∙ e)
+flags_empty c (Some d) p same e =
+    regex_empty c.key d p (sym (ap (λ x. part_from x c.key d (shape_of d) (list_of d)) same) ∙ e)
 
 are_together : (ms : Members) → AreTogether (λ c. part_in ms c)
 are_together ms c d p q pattern flags e f =
@@ -398,9 +411,11 @@ node_fits ms part t fit together e =
     let k = if_some (are_distinct ms && only_known r.0.columns ms && is_paired r.0.kind ms) _ t p.2 in
     let fs = map_some _ (run_of part r.0.columns) t k.1 in
     let own = row_of_object ms r.0 r.1 in
-    let fields = run_fits part fit together r.0.columns fs.0 (subst (λ x. are_followed x.columns ≡ true) own.1 (row_sound r.0.kind).followed) fs.1 in
-    subst Fits fs.2
-    ((own.0, offset_below (find_member (codes "start") ms) s.0 s.1, offset_below (find_member (codes "end") ms) p.0 p.1), subst (λ x. FitFields fs.0 x.columns) (sym own.1) fields)
+    let followed = subst (λ x. are_followed x.columns ≡ true) own.1 (row_sound r.0.kind).followed in
+    let fields = run_fits part fit together r.0.columns fs.0 followed fs.1 in
+    let start_below = offset_below (find_member (codes "start") ms) s.0 s.1 in
+    let end_below = offset_below (find_member (codes "end") ms) p.0 p.1 in
+    subst Fits fs.2 ((own.0, start_below, end_below), subst (λ x. FitFields fs.0 x.columns) (sym own.1) fields)
 
 here_or : (b : Bool) (c : Column) (p : Parts) (d : Json) (rest : Option Parts)
     → (if b then part_from c.class c.key d (shape_of d) (list_of d) else rest) ≡ Some p
@@ -416,7 +431,8 @@ or_hole_fits holes d p more fit e rest = by_test (holes && is_null_value d) refl
   where
     by_test : (b : Bool) → (holes && is_null_value d) ≡ b
         → (if b then Some (one empty) else option_map alone (shape_of d)) ≡ Some p → FitItems (onto p more) holes
-    by_test true h f = subst (λ x. FitItems (onto x more) holes) (some_same (one empty) p f) ((both holes (is_null_value d) h).0, refl, rest)
+    by_test true h f =
+        subst (λ x. FitItems (onto x more) holes) (some_same (one empty) p f) ((both holes (is_null_value d) h).0, refl, rest)
     by_test false h f =
         let a = map_some alone (shape_of d) p f in
         let t = fit a.0 a.1 in
@@ -451,4 +467,5 @@ mutual
   member_fits : (ms : Members) (c : Column) (p : Parts) → part_in ms c ≡ Some p → FitsPart c.class p
   member_fits no_members c p e = absent_fits c.class p e
   member_fits (member k d ms) c p e =
-      here_or (bytes_eq k (outer_key c)) c p d (part_in ms c) e (λ t h. shape_fits d t h) (λ holes us h. list_fits d holes us h) (λ h. member_fits ms c p h)
+      here_or (bytes_eq k (outer_key c)) c p d (part_in ms c) e
+      (λ t h. shape_fits d t h) (λ holes us h. list_fits d holes us h) (λ h. member_fits ms c p h)

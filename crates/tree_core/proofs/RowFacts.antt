@@ -1,9 +1,9 @@
 -- What the proofs take from the node table: a few facts, each by computing over its rows.
-use Rattle.std.specs.Prelude.{ℕ, List, [], ◌∷◌, Bool, true, false, not, ◌&&◌, ◌||◌, nat_lt, bytes_eq, codes, Some, if◌then◌else◌}
+use Rattle.std.specs.Prelude.{ℕ, List, [], ◌∷◌, Bool, true, false, not, ◌&&◌, ◌||◌, bytes_eq, codes, Some, if◌then◌else◌}
 use Rattle.std.specs.List.{list_all}
 use Rattle.std.proofs.Common.{◌≡◌, refl}
 use Rattle.json_text.specs.Units.{are_code_units}
-use Rattle.tree_core.specs.Reading.{is_listed, outer_key}
+use Rattle.tree_core.specs.Reading.{is_listed}
 use Rattle.tree_core.specs.Table.{Column, Row, row, row_named, word_list}
 use Rattle.tree_core.proofs.Ascii.{is_ascii}
 use Rattle.tree_core.proofs.Cases.{both, not_true}
@@ -38,9 +38,11 @@ is_outer c cs = not (is_listed c.key cs) && ((not c.omit || is_omittable c.class
 -- of a class, the first column before the others: `pattern` stands before `flags`, and `raw` before `cooked`
 abbrev pub is_first : FieldClass → Column → List Column → Bool
 is_first Pattern c [] = false
-is_first Pattern c (d ∷ cs) = is_inner c (codes "pattern") && (is_flags d.class && (is_inner d (codes "flags") && not (is_listed (codes "regex") cs)))
+is_first Pattern c (d ∷ cs) =
+    is_inner c (codes "pattern") && (is_flags d.class && (is_inner d (codes "flags") && not (is_listed (codes "regex") cs)))
 is_first Raw c [] = false
-is_first Raw c (d ∷ cs) = is_inner c (codes "raw") && (is_cooked d.class && (is_inner d (codes "cooked") && not (is_listed (codes "value") cs)))
+is_first Raw c (d ∷ cs) =
+    is_inner c (codes "raw") && (is_cooked d.class && (is_inner d (codes "cooked") && not (is_listed (codes "value") cs)))
 is_first Flags c cs = false
 is_first Cooked c cs = false
 is_first _ c cs = is_outer c cs
@@ -163,7 +165,14 @@ row_sound k =
     let c = both (not (is_listed (codes "start") r.columns)) _ b.1 in
     let d = both (not (is_listed (codes "end") r.columns)) _ c.1 in
     let e = both (are_followed r.columns) _ d.1 in
-    record { ascii = a.0; typed = not_true _ b.0; starts = not_true _ c.0; ends = not_true _ d.0; followed = e.0; ordered = e.1 }
+    record {
+      ascii = a.0;
+      typed = not_true _ b.0;
+      starts = not_true _ c.0;
+      ends = not_true _ d.0;
+      followed = e.0;
+      ordered = e.1;
+    }
 
 pub row_kind : (k : Kind) → (row k).kind ≡ k
 row_kind Program = refl
