@@ -14,6 +14,7 @@ pub mod Supported
 pub mod Reading
 pub mod JsonOf
 pub mod Values
+pub mod Meanings
 pub mod Laws
 pub mod Limits
 pub mod Readable

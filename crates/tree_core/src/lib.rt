@@ -7,6 +7,7 @@ mod laws;
 mod limits;
 mod literals;
 mod node;
+mod print;
 mod read;
 mod roles;
 mod rows;
