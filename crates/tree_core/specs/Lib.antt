@@ -19,3 +19,4 @@ pub mod Readable
 pub mod ReadError
 pub mod Laws
 pub mod Program
+pub mod Meanings

@@ -3,7 +3,7 @@ use Rattle.std.specs.Prelude.{ℕ, suc, pos, Bool, true, false, ◌&&◌, List, 
 use Rattle.json_text.specs.Json.{Json, null, truth, whole as number, string, list, object, Items, no_items, item, Members, no_members, member}
 use Rattle.tree_core.specs.declared.table.Class.{Class as FieldClass}
 use Rattle.json_text.specs.Units.{units_of}
-use Rattle.tree_core.specs.Along.{Along, all, each, first_column, other_columns}
+use Rattle.oxc_estree.specs.Out.{Meaning, Part, key, index}
 use Rattle.tree_core.specs.Literals.{is_fixed}
 use Rattle.tree_core.specs.Table.{Column, row, word_list}
 use Rattle.tree_core.specs.Tree.{Atom, Parts, Tree, atom, child, done, empty, flag, many, text, units, whole, word}
@@ -68,27 +68,37 @@ value_of t = node_value t.kind t.start t.stop (fields_value t.fields (row t.kind
 
 -- ---- paths
 
-pub data Step : Type 0 where
-  key : List ℕ → Step
-  index : ℕ → Step
+-- a Literal that JSON can't hold: it prints as null, and its `value` is marked
+unfoldable pub is_marked : Kind → Parts → Bool
+is_marked Literal fields = is_fixed fields
+is_marked _ fields = false
 
--- the step to the i-th part
-unfoldable pub step_to : Along → ℕ → Step
-step_to (each []) i = index i
-step_to (each (c ∷ cs)) i = key c.key
-step_to (all c) i = index i
+-- the path from a node to itself, where it is such a Literal
+abbrev pub own_path : Kind → Parts → List (List Part)
+own_path k fields = if is_marked k fields then [] ∷ [] else []
 
-unfoldable pub own_path : Kind → Parts → List (List Step)
-own_path Literal fields = if is_fixed fields then [] ∷ [] else []
-own_path _ fields = []
+abbrev mutual
+  pub fields_paths : Parts → List Column → List (List Part)
+  fields_paths done cs = []
+  fields_paths (atom a rest) [] = []
+  fields_paths (atom a rest) (c ∷ cs) = fields_paths rest cs
+  fields_paths (child k s e fs rest) [] = []
+  fields_paths (child k s e fs rest) (c ∷ cs) =
+      map (λ p. key c.key ∷ p) (own_path k fs ++ fields_paths fs (row k).columns) ++ fields_paths rest cs
+  fields_paths (many items rest) [] = []
+  fields_paths (many items rest) (c ∷ cs) = map (λ p. key c.key ∷ p) (items_paths items 0) ++ fields_paths rest cs
 
-unfoldable pub paths_from : Parts → Along → ℕ → List (List Step)
-paths_from done cs i = []
-paths_from (atom a more) cs i = paths_from more (other_columns cs) (suc i)
-paths_from (many items more) cs i = map (λ p. step_to cs i ∷ p) (paths_from items (all (first_column cs)) 0) ++ paths_from more (other_columns cs) (suc i)
-paths_from (child k s e fields more) cs i =
-    map (λ p. step_to cs i ∷ p) (own_path k fields ++ paths_from fields (each (row k).columns) 0) ++ paths_from more (other_columns cs) (suc i)
+  pub items_paths : Parts → ℕ → List (List Part)
+  items_paths done i = []
+  items_paths (atom a rest) i = items_paths rest (suc i)
+  items_paths (child k s e fs rest) i =
+      map (λ p. index i ∷ p) (own_path k fs ++ fields_paths fs (row k).columns) ++ items_paths rest (suc i)
+  items_paths (many items rest) i = items_paths rest i
 
 -- the paths from the root to the literals that are BigInt or RegExp, in printing order
-unfoldable pub fix_paths : Tree → List (List Step)
-fix_paths t = paths_from t.fields (each (row t.kind).columns) 0
+abbrev pub fix_paths : Tree → List (List Part)
+fix_paths t = own_path t.kind t.fields ++ fields_paths t.fields (row t.kind).columns
+
+-- the value, and the path to the `value` of each such literal
+abbrev pub meaning_of : Tree → Meaning
+meaning_of t = record { value = value_of t; marks = map (λ p. p ++ key (codes "value") ∷ []) (fix_paths t) }

@@ -8,6 +8,7 @@ mod limits;
 mod literals;
 mod node;
 mod program;
+mod print;
 mod read;
 mod roles;
 mod rows;

@@ -125,6 +125,14 @@ pub(crate) fn has_case(fields: &FieldList) -> bool
     !matches!(case_of(fields), LiteralCase::NoCase)
 }
 
+/// Whether the Literal is a BigInt or a regular expression, which JSON can't hold.
+#[tactic(auto, unfolding(crate::specs::Literals::is_fixed))]
+pub(crate) fn is_fixed(fields: &FieldList) -> bool
+    ensures { result ≡ spec.is_fixed fields.now }
+{
+    matches!(case_of(fields), LiteralCase::RegExp | LiteralCase::BigInt)
+}
+
 /// Whether the Literal is a string.
 #[tactic(auto, unfolding(crate::specs::Literals::is_text))]
 pub(crate) fn is_text(fields: &FieldList) -> bool

@@ -101,7 +101,7 @@ impl Model for NodeList {
 }
 
 // `items.get(i)`, with its answer as one equation.
-fn at<T>(items: &[T], i: usize) -> Option<&T>
+pub(crate) fn at<T>(items: &[T], i: usize) -> Option<&T>
     ensures { option_copied result ≡ slice_get items.now i }
 {
     items.get(i)
