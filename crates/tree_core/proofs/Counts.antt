@@ -1,35 +1,21 @@
 -- How many objects a value has, counted item by item and member by member.
-use Rattle.std.proofs.Common.{◌≡◌, ℕ, suc, zero, ◌+◌, ◌<◌, ◌≤◌, ◌^◌, ◌||◌, min, Bool, true, false, List, [], ◌∷◌, length, get_or, drop, Option, Some, None, if◌then◌else◌, nat_le, refl, sym, ap, ◌∙◌, arith}
+use Rattle.std.proofs.Common.{◌≡◌, ℕ, ◌+◌, ◌<◌, ◌≤◌, ◌^◌, ◌||◌, min, Bool, true, false, List, [], length, drop, Option, Some, None, if◌then◌else◌, refl, sym, ap, ◌∙◌, arith}
 use Rattle.std.proofs.lemmas.Bool.Decides.{nat_tests}
-use Rattle.std.proofs.lemmas.List.{drop_more, drop_all}
-use Rattle.serde_json.specs.Data.{Data, array, object, Items, no_items, item, Members, no_members, member}
-use Rattle.serde_json.specs.Events.{items_len}
-use Rattle.serde_json.specs.View.{view, items_view, members_view}
+use Rattle.std.proofs.lemmas.List.{drop_all}
+use Rattle.serde_json.specs.View.{items_view, members_view}
 use Rattle.serde_json.specs.declared.value.Value.{Value}
 use Rattle.serde_json.proofs.Views.{Entry, items_len-items_view}
-use Rattle.tree_core.specs.Limits.{is_long_array, has_long_part, has_long_item, has_long_member, objects_in, objects_in_items, objects_in_members}
+use Rattle.tree_core.specs.Limits.{is_long_array, has_long_item, has_long_member, objects_in_items, objects_in_members}
 
 -- the count, where no part is too long
 abbrev pub counted : Bool → ℕ → Option ℕ
 counted long n = if long then None else Some (min n 18446744073709551615)
 
-pub counted-none : (long : Bool) (n : ℕ) → None ≡ counted long n → long ≡ true
-counted-none true n e = refl
-counted-none false n e = absurd (cc)
-
--- what comes next is counted, and its count added
-pub counted-next : (long more : Bool) (sum n m rest : ℕ) → Some m ≡ counted long n → counted (long || more) (sum + (n + rest)) ≡ counted more (min (sum + m) 18446744073709551615 + rest)
-counted-next true more sum n m rest e = absurd (cc)
-counted-next false true sum n m rest e = refl
-counted-next false false sum n m rest e =
-    let same : m ≡ min n 18446744073709551615 = cc in
-    ap Some (omega arith)
-
-pub counted-long : (more : Bool) (long : Bool) (n : ℕ) → long ≡ true → None ≡ counted (long || more) n
+counted-long : (more : Bool) (long : Bool) (n : ℕ) → long ≡ true → None ≡ counted (long || more) n
 counted-long more long n e = rw e refl
 
 -- at the end the sum is the count
-pub counted-end : (long : Bool) (sum n : ℕ) → sum < 2 ^ 64 → counted long n ≡ counted false (sum + 0) → Some sum ≡ counted long n
+counted-end : (long : Bool) (sum n : ℕ) → sum < 2 ^ 64 → counted long n ≡ counted false (sum + 0) → Some sum ≡ counted long n
 counted-end long sum n h e = let same : sum ≡ min (sum + 0) 18446744073709551615 = omega arith in ap Some same ∙ sym e
 
 pub long_array-length : (vs : List Value) (long : Bool) (n : ℕ) → 1073741824 ≤ length vs → None ≡ counted (is_long_array (items_view vs) || long) n

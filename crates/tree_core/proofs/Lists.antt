@@ -1,5 +1,5 @@
 -- Lists of fields and of nodes beside the runs that they stand for.
-use Rattle.std.proofs.Common.{◌≡◌, ℕ, zero, suc, List, [], ◌∷◌, ◌++◌, length, Bool, true, false, Option, Some, None, option_map, option_copied, IfSome, Bor, map, slice_get, refl, sym, ap, ◌∙◌, ◌<◌, ◌≤◌, ◌+◌, arith}
+use Rattle.std.proofs.Common.{◌≡◌, ℕ, zero, suc, List, [], ◌∷◌, length, true, Option, Some, None, option_map, option_copied, IfSome, Bor, slice_get, refl, sym, ap, ◌∙◌, ◌<◌, ◌≤◌, arith}
 use Rattle.tree_core.specs.Tree.{Tree, Parts, done, atom, child, many, before, empty, flag, word, text, units, whole}
 use Rattle.tree_core.specs.Look.{parts_size, part_size, parts_len, part_at, item_at, item_size, are_items, past, onto}
 use Rattle.tree_core.specs.Views.{part_of, parts_of, item_of, items_of}

@@ -1,7 +1,7 @@
 -- The case of a Literal, by tests on its fields.
-use Rattle.std.proofs.Common.{◌≡◌, Bool, true, false, true≢false, ◌&&◌, refl, sym, ap, ◌∙◌}
+use Rattle.std.proofs.Common.{◌≡◌, Bool, true, false, true≢false, ◌&&◌, refl, sym}
 use Rattle.tree_core.specs.declared.literals.LiteralCase.TheVariants as case
-use Rattle.tree_core.specs.Literals.{by_raw, case_from, case_of, holds_text, with_value, without_value}
+use Rattle.tree_core.specs.Literals.{by_raw, case_from, holds_text, with_value, without_value}
 use Rattle.tree_core.specs.Tree.{Atom, Parts, Text, done, atom, child, many, empty, flag, word, text, units, whole, is_empty}
 
 empty_is : (p : Parts) → is_empty p ≡ true → (more : Parts) × (p ≡ atom empty more)

@@ -1,7 +1,7 @@
 -- The members of an object of `serde_json` beside those of the JSON value that it is.
-use Rattle.std.proofs.Common.{◌≡◌, ℕ, zero, suc, ◌<◌, ◌≤◌, max, List, [], ◌∷◌, Bool, true, false, true≢false, ◌&&◌, ◌||◌, not, nat_lt, nat_eq, length, Option, Some, None, option_map, IfSome, Bor, is_some, String, Global, string_bytes, Ordering, Less, Equal, Greater, string_cmp, nat_cmp, is_eq, bytes_eq, codes, IsTrue, IsUtf8, IsAscii, if◌then◌else◌, refl, sym, ap, ◌∙◌, arith, rules}
+use Rattle.std.proofs.Common.{◌≡◌, ℕ, zero, suc, ◌≤◌, List, [], ◌∷◌, Bool, true, false, true≢false, ◌&&◌, nat_lt, nat_eq, length, Option, Some, None, option_map, IfSome, Bor, String, Global, string_bytes, Ordering, Less, Equal, Greater, string_cmp, nat_cmp, is_eq, bytes_eq, codes, IsTrue, IsUtf8, IsAscii, if◌then◌else◌, refl, sym, ap, ◌∙◌, arith, rules}
 use Rattle.std.specs.Cmp.Lexicographic.{slice_cmp}
-use Rattle.std.specs.List.{AllByRecursion, list_all}
+use Rattle.std.specs.List.{AllByRecursion}
 use Rattle.std.specs.List.Sorted.{IsStrictlySortedBy}
 use Rattle.std.specs.Map.{keys_of}
 use Rattle.std.specs.Ordering.{match_ordering}
@@ -10,7 +10,7 @@ use Rattle.std.proofs.lemmas.Cmp.{nat_list_cmp_total, tied_itself}
 use Rattle.std.proofs.lemmas.Map.Text.{is_eq-slice_cmp}
 use Rattle.std.proofs.lemmas.Slice.Eq.{bytes_eq-Decides}
 use Rattle.std.proofs.lemmas.Str.{IsUtf8-string_bytes}
-use Rattle.json_text.specs.Json.{Json, Members as JsonMembers, no_members as nothing, member as pair}
+use Rattle.json_text.specs.Json.{Json}
 use Rattle.json_text.specs.Units.{units_of}
 use Rattle.json_text.proofs.Units.{text_of_units-units_of, bytes_eq-units_of, units_of-injective}
 use Rattle.serde_json.specs.Data.{Data, array, string, Members, no_members, member, depth, members_depth}

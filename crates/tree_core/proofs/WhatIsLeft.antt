@@ -1,5 +1,5 @@
 -- What the reader's loops keep: what is read so far stands before what is left.
-use Rattle.std.proofs.Common.{◌≡◌, ℕ, zero, suc, get_or, ◌<◌, ◌≤◌, List, [], ◌∷◌, ◌++◌, length, map, Bool, true, false, true≢false, ◌&&◌, bytes_eq, IsTrue, Option, Some, None, option_map, option_and_then, if◌then◌else◌, refl, sym, ap, ◌∙◌, drop, ◌+◌, arith}
+use Rattle.std.proofs.Common.{◌≡◌, ℕ, zero, suc, get_or, ◌<◌, ◌≤◌, List, [], ◌∷◌, ◌++◌, length, map, Bool, true, false, true≢false, ◌&&◌, bytes_eq, IsTrue, Option, Some, None, option_map, if◌then◌else◌, refl, sym, ap, ◌∙◌, drop, ◌+◌, arith}
 use Rattle.std.proofs.lemmas.List.{drop_more, drop_all}
 use Rattle.json_text.specs.Json.{Json, Members, no_members, member}
 use Rattle.serde_json.specs.Data.{depth, items_depth}

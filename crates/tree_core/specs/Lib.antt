@@ -15,7 +15,8 @@ pub mod Reading
 pub mod JsonOf
 pub mod Values
 pub mod Meanings
-pub mod Laws
 pub mod Limits
 pub mod Readable
 pub mod ReadError
+pub mod Laws
+pub mod Program

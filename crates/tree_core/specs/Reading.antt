@@ -1,5 +1,5 @@
 -- The tree that a JSON value is: first its shape, each field of its class, then whether each node stands where it may.
-use Rattle.std.specs.Prelude.{ℕ, ℤ, pos, negsuc, ◌^◌, ◌&&◌, ◌||◌, List, [], ◌∷◌, codes, Bool, true, false, not, if◌then◌else◌, nat_lt, Option, Some, None, option_map, option_and_then, bytes_eq, is_some}
+use Rattle.std.specs.Prelude.{ℕ, pos, ◌^◌, ◌&&◌, ◌||◌, List, [], ◌∷◌, codes, Bool, true, false, not, if◌then◌else◌, nat_lt, Option, Some, None, option_map, option_and_then, bytes_eq, is_some}
 use Rattle.std.specs.List.{position_from}
 use Rattle.json_text.specs.Json.{Json, null, truth, whole as number, other_number, string, list, object, Items, no_items, item, Members, no_members, member}
 use Rattle.tree_core.specs.declared.table.Class.{Class as FieldClass}

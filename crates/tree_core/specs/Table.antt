@@ -3,10 +3,8 @@ use Rattle.std.specs.Prelude.{ℕ, Bool, true, false, List, [], ◌∷◌, codes
 use Rattle.tree_core.specs.Kinds.{all_kinds}
 use Rattle.tree_core.specs.declared.kind.Kind.{Kind}
 use Rattle.tree_core.specs.declared.kind.Kind.TheVariants.{Program, Hashbang, ExpressionStatement, BlockStatement, EmptyStatement, DebuggerStatement, ThisExpression, Super, ReturnStatement, ThrowStatement, LabeledStatement, BreakStatement, ContinueStatement, IfStatement, SwitchStatement, SwitchCase, TryStatement, CatchClause, WhileStatement, DoWhileStatement, ForStatement, ForInStatement, ForOfStatement, WithStatement, VariableDeclaration, VariableDeclarator, FunctionDeclaration, FunctionExpression, ArrowFunctionExpression, ClassDeclaration, ClassExpression, ClassBody, MethodDefinition, PropertyDefinition, StaticBlock, ArrayExpression, ObjectExpression, Property, SpreadElement, RestElement, UnaryExpression, UpdateExpression, BinaryExpression, LogicalExpression, AssignmentExpression, ConditionalExpression, CallExpression, NewExpression, MemberExpression, ChainExpression, SequenceExpression, YieldExpression, AwaitExpression, ImportExpression, MetaProperty, TemplateLiteral, TaggedTemplateExpression, TemplateElement, ObjectPattern, ArrayPattern, AssignmentPattern, Identifier, PrivateIdentifier, Literal, ImportDeclaration, ImportSpecifier, ImportDefaultSpecifier, ImportNamespaceSpecifier, ImportAttribute, ExportNamedDeclaration, ExportSpecifier, ExportDefaultDeclaration, ExportAllDeclaration}
-use Rattle.tree_core.specs.declared.table.Declared.{Declared}
 use Rattle.tree_core.specs.declared.table.Declared.TheVariants.{Param, Class, ClassName, Catch, Import}
-use Rattle.tree_core.specs.declared.table.Role.{Role}
-use Rattle.tree_core.specs.declared.table.Role.TheVariants.{Plain, MemberKey, Read, Write, ReadWrite, Called, Declares}
+use Rattle.tree_core.specs.declared.table.Role.TheVariants.{Plain, MemberKey, Read, Write, ReadWrite, Declares}
 use Rattle.tree_core.specs.declared.table.Mode.{Mode}
 use Rattle.tree_core.specs.declared.table.Mode.TheVariants.{Gives, Same, Leaves, UnlessComputed, ByKind, UnlessOptional, ByOperator, UnlessSource, NamesFunction, NamesExpression}
 use Rattle.tree_core.specs.declared.table.Mark.{Mark}
@@ -17,7 +15,6 @@ use Rattle.tree_core.specs.declared.table.Strict.{Strict}
 use Rattle.tree_core.specs.declared.table.Strict.TheVariants.{AsOutside, Always, ByList, ByBlock}
 use Rattle.tree_core.specs.declared.table.Words.{Words}
 use Rattle.tree_core.specs.declared.table.Words.TheVariants.{SourceTypes, VariableKinds, MethodKinds, PropertyKinds, UnaryOperators, UpdateOperators, BinaryOperators, LogicalOperators, AssignmentOperators}
-use Rattle.tree_core.specs.declared.table.Group.{Group}
 use Rattle.tree_core.specs.declared.table.Group.TheVariants.{Only, Statements, Bodies, ModuleItems, Expressions, Arguments, Callees, Chained, LeftOperands, Keys, MemberKeys, Members, Initials, ForTargets, ArrowBodies, ClassElements, ObjectMembers, PatternMembers, PropertyValues, Patterns, ElementsOrRest, ImportSpecifiers, Names, Strings, Locals, Declarations, Defaults}
 use Rattle.tree_core.specs.declared.table.Class.{Class as FieldClass}
 use Rattle.tree_core.specs.declared.table.Class.TheVariants.{Flag, Word, Text, TextOr, Name, LiteralValue, Pattern, Flags, Raw, Cooked, One, Maybe, Many, ManyOr, Holes}

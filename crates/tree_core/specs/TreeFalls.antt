@@ -1,8 +1,8 @@
 -- Each child is smaller than the list that holds it.
-use Rattle.std.specs.Prelude.{◌≡◌, ℕ, ◌+◌, ◌≤◌, max, List, [], ◌∷◌, Option, Some, None}
+use Rattle.std.specs.Prelude.{◌≡◌, ◌+◌, ◌≤◌, List, [], ◌∷◌, Option, Some, None}
 use Rattle.std.proofs.Common.{arith}
 use denote.Param.Weighed.{most}
-use Rattle.tree_core.specs.Tree.{Tree, Parts}
+use Rattle.tree_core.specs.Tree.{Tree}
 use Rattle.tree_core.specs.Look.{parts_size, tree_size, part_size}
 use Rattle.tree_core.specs.Views.{part_of, parts_of, items_of}
 use Rattle.tree_core.specs.declared.node.Field.{Field}

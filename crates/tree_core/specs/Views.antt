@@ -1,6 +1,6 @@
 -- The data that the fields and lists of a tree stand for.
 use Rattle.std.specs.Prelude.{List, [], ◌∷◌, map, Option, Some, None}
-use Rattle.tree_core.specs.Tree.{Tree, alone, before, Parts, done, atom, many, empty as blank, flag, word, text, units, whole}
+use Rattle.tree_core.specs.Tree.{Tree, alone, before, Parts, done, atom, many, empty as blank, flag, word, text, whole}
 use Rattle.tree_core.specs.Look.{onto}
 use Rattle.tree_core.specs.declared.node.Field.{Field}
 use Rattle.tree_core.specs.declared.node.Field.TheVariants.{Empty, Flag, Word, Text, Whole, Child, List as Several}

@@ -8,6 +8,7 @@ mod limits;
 mod literals;
 mod node;
 mod print;
+mod program;
 mod read;
 mod roles;
 mod rows;
@@ -18,9 +19,13 @@ mod text;
 pub use kind::{KINDS, Kind};
 pub use laws::{printed_text_reads, reading_undoes_printing};
 pub use node::{Field, FieldList, Node, NodeList};
-pub use read::ReadError;
+pub use program::{Program, SourceType};
+pub use read::{ReadError, read_tree};
 pub use rows::{row, row_named};
 pub use table::{
     Class, Column, Declared, Group, Mark, Mode, Opens, Role, Row, Strict, Words, word_list,
 };
 pub use text::TreeText;
+
+#[cfg(test)]
+mod tests;

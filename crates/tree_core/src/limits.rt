@@ -15,8 +15,8 @@ const ITEMS: usize = 1 << 30;
 // Offsets in a text have 32 bits.
 const TEXT_BYTES: usize = 4_294_967_295;
 
-/// Whether a value is too large to be read: its objects and `more` reach 2^30, an array has 2^30 items or
-/// more, or a string or a key has more than 4,294,967,295 bytes.
+/// Whether a value is too large to be read: its objects and `more` reach 2^30, an array has 2^30
+/// items or more, or a string or a key has more than 4,294,967,295 bytes.
 #[tactic(auto, unfolding(crate::specs::Limits::is_too_large))]
 pub fn is_too_large(value: &Value, more: usize) -> bool
     ensures { result ≡ spec.is_too_large (view value.now) more }
@@ -51,8 +51,9 @@ fn object_count(value: &Value) -> Option<usize>
 #[cycle(count)]
 fn item_objects(items: &Vec<Value>) -> Option<usize>
     ensures { result
-        ≡ (if is_long_array (items_view items.now.items) || has_long_item (items_view items.now.items)
-        then None else Some (min (objects_in_items (items_view items.now.items)) usize.MAX)) }
+        ≡ (if is_long_array (items_view items.now.items)
+        || has_long_item (items_view items.now.items) then None
+        else Some (min (objects_in_items (items_view items.now.items)) usize.MAX)) }
 {
     if items.len() >= ITEMS {
         return None;

@@ -1,14 +1,16 @@
 //! The reader: the tree that a JSON value is.
 
-ghost use Rattle.std.specs.Prelude.{◌≡◌, List, [], ◌∷◌, ◌++◌, Some, None, true, IsTrue, map, option_map, option_and_then, length, ◌≤◌, OnOk, IfOk, IfErr, IfSome};
+ghost use Rattle.std.specs.Prelude.{◌≡◌, List, [], ◌∷◌, ◌++◌, Some, None, true, IsTrue, map, option_map, option_and_then, ◌↔◌, length, ◌≤◌, OnOk, IfOk, IfErr, IfSome};
 ghost use Rattle.serde_json.specs.Data.{depth, members_depth};
 ghost use Rattle.serde_json.specs.View.{view, items_view, members_view};
 ghost use Rattle.json_text.specs.Units.{units_of};
 ghost use Rattle.tree_core.specs.JsonOf.{json_of};
 ghost use Rattle.tree_core.specs.JsonOf as json;
+ghost use Rattle.tree_core.specs.Limits.{is_too_large};
 ghost use Rattle.tree_core.specs.Readable.{is_ascii, is_readable, are_readable, field_from, fields_in, item_from};
 ghost use Rattle.tree_core.specs.ReadError.{Says};
 ghost use Rattle.tree_core.specs.Reading as reading;
+ghost use Rattle.tree_core.specs.Reading.{tree_of};
 ghost use Rattle.tree_core.specs.Rows.{row_of, column_of};
 ghost use Rattle.tree_core.specs.Supported as spec;
 ghost use Rattle.tree_core.specs.Table.{word_list};
@@ -17,8 +19,11 @@ ghost use Rattle.tree_core.specs.Tree.{text, many, done, alone};
 ghost use Rattle.tree_core.specs.Views.{part_of, parts_of, item_of, items_of};
 
 use crate::kind::Kind;
+use crate::limits::is_too_large;
 use crate::node::{Field, FieldList, Node, NodeList};
+use crate::program::Program;
 use crate::rows::row_named;
+use crate::standing::is_placed;
 use crate::table::{Class, Column, Row, Words, word_list};
 use crate::text::TreeText;
 use serde_json::{Map, Value};
@@ -58,6 +63,32 @@ impl<T: Drop> From<AllocFailed<T>> for ReadError {
     fn from(_error: AllocFailed<T>) -> ReadError {
         ReadError::Memory
     }
+}
+
+/// The program that a JSON value is, as `serde_json` reads it.
+///
+/// The value is the ESTree of a Program, with each field and each node as the node table has it:
+/// the keys of an object may come in any order, and a field that is missing may have a default.
+/// A field that no row lists is left out where it holds null, false or an empty list.
+///
+/// `TooLarge` comes exactly where the objects of the value and `more`, a number of names that are
+/// counted with them, reach 2^30, an array has 2^30 items or more, or a string or a key has more
+/// than 4,294,967,295 bytes. `BadTree` comes only where, within these limits, the value is no
+/// such tree.
+pub fn read_tree(alloc: Global, value: &Value, more: usize) -> Result<Program, ReadError>
+    ensures ok { IfOk result (λ p. tree_of (json_of (view value.now)) ≡ Some p) }
+    ensures too_large { (result ≡ Err ReadError.TooLarge)
+        ↔ IsTrue (is_too_large (view value.now) more) }
+    ensures bad_tree { result ≡ Err ReadError.BadTree → tree_of (json_of (view value.now)) ≡ None }
+{
+    if is_too_large(value, more) {
+        return Err(ReadError::TooLarge);
+    }
+    let root = read_node(alloc, value)?;
+    if !is_placed(alloc, &root) {
+        return Err(ReadError::BadTree);
+    }
+    Ok(Program::from_root(root))
 }
 
 // The member with this key.
@@ -255,7 +286,7 @@ fn read_text(alloc: Global, value: &Value) -> Result<Field, ReadError>
     }
 }
 
-/// The node that an object is, as far as its shape goes.
+// The node whose shape a value has.
 #[cycle(read)]
 fn read_node(alloc: Global, value: &Value) -> Result<Node, ReadError>
     ensures ok { IfOk result (λ n. reading.shape_of (json_of (view value.now)) ≡ Some n) }
@@ -393,7 +424,9 @@ fn read_list(alloc: Global, value: &Value, holes: bool) -> Result<Field, ReadErr
         (reading.list_of (json_of (view value.now)) holes) ≡ None)) }
 {
     match value {
-        Value::Array(items) => Ok(Field::List(NodeList::from_vec(read_items(alloc, items, holes)?))),
+        Value::Array(items) => Ok(Field::List(NodeList::from_vec(read_items(
+            alloc, items, holes,
+        )?))),
         _ => Err(ReadError::BadTree),
     }
 }

@@ -1,7 +1,7 @@
-//! Where each node may stand: what a field takes, by its group, by the fields beside it, and by the role
-//! that it gives.
+//! Where each node may stand: what a field takes, by its group, by the fields beside it, and by
+//! the role that it gives.
 
-ghost use Rattle.std.specs.Prelude.{◌≡◌, map, drop, option_copied, slice_get};
+ghost use Rattle.std.specs.Prelude.{◌≡◌, ◌&&◌, map, drop, option_copied, slice_get};
 ghost use Rattle.tree_core.specs.Along.{each, first_column};
 ghost use Rattle.tree_core.specs.Kinds.{is_in};
 ghost use Rattle.tree_core.specs.Rows.{column_of};
@@ -178,8 +178,8 @@ const WORD_IN: u8 = 20;
 // The number of `module` among the source types.
 const WORD_MODULE: u8 = 1;
 
-/// Whether a node of this kind with these fields may stand in a field of the group, which gives this role,
-/// beside the fields of its parent.
+/// Whether a node of this kind with these fields may stand in a field of the group, which gives
+/// this role, beside the fields of its parent.
 #[tactic(auto, unfolding(crate::specs::Standing::admits))]
 fn admits(group: Group, role: Role, within: &FieldList, kind: Kind, fields: &FieldList) -> bool
     ensures { result ≡ spec.admits group role within.now kind fields.now }
@@ -235,8 +235,7 @@ fn admits(group: Group, role: Role, within: &FieldList, kind: Kind, fields: &Fie
         Group::PropertyValues => is_property_value(role, kind),
         Group::Patterns => is_pattern(role, kind),
         Group::ElementsOrRest => {
-            is_pattern(role, kind)
-                || kind.is_among(&[Kind::AssignmentPattern, Kind::RestElement])
+            is_pattern(role, kind) || kind.is_among(&[Kind::AssignmentPattern, Kind::RestElement])
         }
         Group::ImportSpecifiers => kind.is_among(&[
             Kind::ImportSpecifier,
@@ -255,9 +254,7 @@ fn admits(group: Group, role: Role, within: &FieldList, kind: Kind, fields: &Fie
                 Kind::ClassDeclaration,
             ]) && is_named(kind, fields)
         }
-        Group::Defaults => {
-            is_expression(kind) || kind.is_among(&NAMED_STATEMENTS)
-        }
+        Group::Defaults => { is_expression(kind) || kind.is_among(&NAMED_STATEMENTS) }
     }
 }
 
@@ -278,5 +275,243 @@ fn group_admits(
         | Class::ManyOr(group)
         | Class::Holes(group) => admits(group, role, within, kind, fields),
         _ => false,
+    }
+}
+
+// ---- conditions on a node alone
+
+fn text_in(field: &Field) -> &str
+    ensures { result.now ≡ text_of (part_of field.now) }
+{
+    match field {
+        Field::Text(text) => text.as_str(),
+        _ => "",
+    }
+}
+
+// The text that the first field is.
+fn first_text(fields: &FieldList) -> &str
+    ensures { result.now ≡ text_of fields.now }
+{
+    match fields.get(0) {
+        Some(field) => text_in(field),
+        None => "",
+    }
+}
+
+#[tactic(auto, unfolding(crate::specs::Standing::identifier_name))]
+fn identifier_name(node: &Node) -> &str
+    ensures { result.now ≡ spec.identifier_name (alone node.now) }
+{
+    match node.kind {
+        Kind::Identifier => first_text(&node.fields),
+        _ => "",
+    }
+}
+
+#[tactic(auto, unfolding(crate::specs::Standing::identifier_name))]
+fn identifier_name_in(field: &Field) -> &str
+    ensures { result.now ≡ spec.identifier_name (part_of field.now) }
+{
+    match field {
+        Field::Child(node) => identifier_name(node),
+        _ => "",
+    }
+}
+
+fn identifier_name_at(fields: &FieldList, i: u8) -> &str
+    ensures { result.now ≡ spec.identifier_name (part fields.now i) }
+{
+    match fields.get(i as usize) {
+        Some(field) => identifier_name_in(field),
+        None => "",
+    }
+}
+
+#[tactic(auto, unfolding(crate::specs::Standing::own_name))]
+fn own_name(node: &Node) -> &str
+    ensures { result.now ≡ spec.own_name (alone node.now) }
+{
+    match node.kind {
+        Kind::Identifier => first_text(&node.fields),
+        Kind::AssignmentPattern => identifier_name_at(&node.fields, 0),
+        _ => "",
+    }
+}
+
+#[tactic(auto, unfolding(crate::specs::Standing::own_name))]
+fn own_name_in(field: &Field) -> &str
+    ensures { result.now ≡ spec.own_name (part_of field.now) }
+{
+    match field {
+        Field::Child(node) => own_name(node),
+        _ => "",
+    }
+}
+
+// The name of the Identifier that the i-th field is, with a default or without.
+fn own_name_at(fields: &FieldList, i: u8) -> &str
+    ensures { result.now ≡ spec.own_name (part fields.now i) }
+{
+    match fields.get(i as usize) {
+        Some(field) => own_name_in(field),
+        None => "",
+    }
+}
+
+#[tactic(auto, unfolding(crate::specs::Standing::is_identifier))]
+fn identifier_in(field: &Field) -> bool
+    ensures { result ≡ spec.is_identifier (part_of field.now) }
+{
+    match field {
+        Field::Child(node) => is_identifier(node),
+        _ => false,
+    }
+}
+
+#[tactic(auto, unfolding(crate::specs::Standing::is_identifier))]
+fn is_identifier(node: &Node) -> bool
+    ensures { result ≡ spec.is_identifier (alone node.now) }
+{
+    matches!(node.kind, Kind::Identifier)
+}
+
+fn identifier_at(fields: &FieldList, i: u8) -> bool
+    ensures { result ≡ spec.is_identifier (part fields.now i) }
+{
+    match fields.get(i as usize) {
+        Some(field) => identifier_in(field),
+        None => false,
+    }
+}
+
+// A shorthand mark stands on a key that is an Identifier and isn't computed, before a value of the
+// same name.
+#[tactic(auto, unfolding(crate::specs::Standing::is_short))]
+fn is_short(fields: &FieldList) -> bool
+    ensures { result ≡ spec.is_short fields.now }
+{
+    !flag_at(fields, 5)
+        && identifier_at(fields, 1)
+        && own_name_at(fields, 1) == own_name_at(fields, 2)
+}
+
+#[tactic(auto, unfolding(crate::specs::Standing::is_sound))]
+fn is_sound(kind: Kind, fields: &FieldList) -> bool
+    ensures { result ≡ spec.is_sound kind fields.now }
+{
+    match kind {
+        Kind::Property => !flag_at(fields, 4) || is_short(fields),
+        Kind::Literal => has_case(fields),
+        _ => true,
+    }
+}
+
+// ---- a run of parts, in a node of this role with these fields
+
+const UNLISTED: Column = Column {
+    key: "",
+    class: Class::Flag,
+    mode: Mode::Gives(Role::Plain),
+    inside: false,
+    mark: Mark::Usual,
+    omit: false,
+};
+
+// `columns.get(i)`, with its answer as one equation.
+fn get_column(columns: &[Column], i: usize) -> Option<&Column>
+    ensures { option_copied result ≡ slice_get columns.now i }
+{
+    columns.get(i)
+}
+
+fn column_at(columns: &[Column], i: usize) -> Column
+    ensures { column_of result ≡ first_column (each (drop i (map column_of columns.now))) }
+{
+    match get_column(columns, i) {
+        Some(column) => *column,
+        None => UNLISTED,
+    }
+}
+
+fn is_fit(class: Class, role: Role, within: &FieldList, kind: Kind, fields: &FieldList) -> bool
+    ensures { result ≡ (spec.group_admits class role within.now kind fields.now
+        && spec.is_sound kind fields.now) }
+{
+    group_admits(class, role, within, kind, fields) && is_sound(kind, fields)
+}
+
+/// Whether the tree is that of a program, with each node where it may stand.
+#[tactic(auto, unfolding(crate::specs::Standing::is_placed))]
+pub(crate) fn is_placed(alloc: Global, root: &Node) -> bool
+    ensures { result ≡ spec.is_placed root.now }
+{
+    let nothing = FieldList::from_vec(Vec::new(alloc));
+    node_stands(
+        root,
+        Class::One(Group::Only(Kind::Program)),
+        Role::Read,
+        &nothing,
+    )
+}
+
+#[cycle(stand)]
+fn node_stands(node: &Node, class: Class, role: Role, within: &FieldList) -> bool
+    ensures { result ≡ spec.stands_in class role within.now (alone node.now) }
+{
+    is_fit(class, role, within, node.kind, &node.fields)
+        && fields_stand(&node.fields, row(node.kind).columns, role)
+}
+
+#[cycle(stand)]
+fn fields_stand(fields: &FieldList, columns: &[Column], own: Role) -> bool
+    ensures { result ≡ spec.stands fields.now (each (map column_of columns.now)) own fields.now }
+{
+    for i in 0..fields.len() {
+        let Some(field) = fields.get(i) else { break };
+        let column = column_at(columns, i);
+        if !field_stands(
+            field,
+            column.class,
+            role_at(column.mode, own, fields),
+            fields,
+        ) {
+            return false;
+        }
+    }
+    true
+}
+
+#[cycle(stand)]
+fn field_stands(field: &Field, class: Class, role: Role, within: &FieldList) -> bool
+    ensures { result ≡ spec.stands_in class role within.now (part_of field.now) }
+{
+    match field {
+        Field::Child(node) => node_stands(node, class, role, within),
+        Field::List(nodes) => nodes_stand(nodes, class, role, within),
+        _ => true,
+    }
+}
+
+#[cycle(stand)]
+fn nodes_stand(nodes: &NodeList, class: Class, role: Role, within: &FieldList) -> bool
+    ensures { result ≡ spec.stands_in class role within.now nodes.now }
+{
+    for i in 0..nodes.len() {
+        let Some(item) = nodes.get(i) else { break };
+        if !item_stands(item, class, role, within) {
+            return false;
+        }
+    }
+    true
+}
+
+#[cycle(stand)]
+fn item_stands(item: &Option<Node>, class: Class, role: Role, within: &FieldList) -> bool
+    ensures { result ≡ spec.stands_in class role within.now (item_of item.now) }
+{
+    match item {
+        Some(node) => node_stands(node, class, role, within),
+        None => true,
     }
 }

@@ -1,0 +1,79 @@
+//! A program: a tree that the reader gives for some JSON value.
+
+ghost use Rattle.std.specs.Prelude.{◌≡◌, ◌↔◌, IsTrue};
+
+use crate::node::Node;
+use crate::roles::word_at;
+use std::marker::Model;
+
+/// What a program's source is: a script, a module, or a CommonJS module, whose code lies in a
+/// function.
+#[derive(Clone, Copy, Debug, PartialEq, Eq)]
+pub enum SourceType {
+    Script,
+    Module,
+    CommonJs,
+}
+
+impl SourceType {
+    pub fn is_module(self) -> bool
+        ensures { IsTrue result ↔ (self ≡ SourceType.Module) }
+    {
+        matches!(self, SourceType::Module)
+    }
+
+    pub fn is_commonjs(self) -> bool
+        ensures { IsTrue result ↔ (self ≡ SourceType.CommonJs) }
+    {
+        matches!(self, SourceType::CommonJs)
+    }
+}
+
+/// A tree that is a program, with each node where it may stand.
+#[derive(Drop)]
+pub struct Program {
+    root: Node,
+}
+
+impl Model for Program {
+    ghost use Rattle.tree_core.specs.Tree.{Tree};
+    ghost use Rattle.tree_core.specs.TreeCode.{coded_tree};
+
+    ghost Value = { Tree };
+
+    ghost coded = { coded_tree };
+
+    ghost use Rattle.tree_core.specs.Program.{IsProgram};
+
+    ghost view = { λ p. p.root };
+
+    ghost invariant = { λ p. IsProgram p.root };
+}
+
+impl Program {
+    ghost use Rattle.tree_core.specs.Program.{IsProgram, source_type_of};
+
+    pub fn from_root(root: Node) -> Program
+        requires { IsProgram root }
+        ensures { result ≡ root }
+    {
+        Program { root }
+    }
+
+    pub fn root(&self) -> &Node
+        ensures root { result.now ≡ self.now }
+        ensures program { IsProgram self.now }
+    {
+        &self.root
+    }
+
+    pub fn source_type(&self) -> SourceType
+        ensures { result ≡ source_type_of self.now }
+    {
+        match word_at(&self.root.fields, 1) {
+            0 => SourceType::Script,
+            1 => SourceType::Module,
+            _ => SourceType::CommonJs,
+        }
+    }
+}
