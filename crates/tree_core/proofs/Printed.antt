@@ -155,6 +155,14 @@ abbrev pub rest : {A : Type 0} → List A → List A
 rest [] = []
 rest (x ∷ xs) = xs
 
+-- a field that is always printed
+pub put_always : (marked : Bool) (d : Column) (b : Atom) (m : List Field) → is_always d ≡ true
+    → put_field marked d b m ≡ field d.key (atom_meaning marked d.class b) ∷ m
+put_always marked d b m always =
+    let parts = both (not d.omit) _ always in
+    put_single marked d.key d.mode d.inside d.mark d.omit d.class b m (is_none _ (not_true _ parts.1))
+    ∙ ap (λ o. (if o && is_empty (atom b done) then [] else field d.key (atom_meaning marked d.class b) ∷ []) ++ m) (not_true d.omit parts.0)
+
 shared_first : (marked : Bool) (c : Column) (cs : List Column) (a : Atom) (more : Parts) (outer : List ℕ)
     → object_key c.class ≡ Some outer → has_next c.class cs ≡ true
     → put_field marked c a (field_meanings marked more cs)
@@ -165,14 +173,9 @@ shared_first marked c [] a more outer key n =
 shared_first marked c (d ∷ ds) a done outer key n = put_last marked c.key c.mode c.inside c.mark c.omit c.class a outer key
 shared_first marked c (d ∷ ds) a (atom b more) outer key n =
     let always : is_always d ≡ true = sym (ap (λ o. not (is_some o) || is_always d) key) ∙ n in
-    let parts = both (not d.omit) _ always in
-    let shown : d.omit ≡ false = not_true d.omit parts.0 in
-    let own : object_key d.class ≡ None = is_none _ (not_true _ parts.1) in
     let m = field_meanings marked more ds in
     let g = field d.key (atom_meaning marked d.class b) in
-    let next : put_field marked d b m ≡ g ∷ m =
-    put_single marked d.key d.mode d.inside d.mark d.omit d.class b m own
-    ∙ ap (λ o. (if o && is_empty (atom b done) then [] else g ∷ []) ++ m) shown in
+    let next : put_field marked d b m ≡ g ∷ m = put_always marked d b m always in
     ap (put_field marked c a) next ∙ put_shared marked c.key c.mode c.inside c.mark c.omit c.class a outer g m key
 shared_first marked c (d ∷ ds) a (child k s e fs more) outer key n =
     put_shared marked c.key c.mode c.inside c.mark c.omit c.class a outer

@@ -29,7 +29,7 @@ tree_read : (v : Json) (t : Tree) → shape_of v ≡ Some t → is_placed t ≡ 
 unfolding tree_of
 tree_read v t e p = ap (option_and_then if_placed) e ∙ ap (λ b. if b then Some t else None) p
 
-tree_fits : (v : Json) (t : Tree) → tree_of v ≡ Some t → Fits t
+pub tree_fits : (v : Json) (t : Tree) → tree_of v ≡ Some t → Fits t
 tree_fits v t e = shape_fits v t (shape_read v t e).0
 
 pub reading_undoes_printing : (v : Json) (t : Tree) → tree_of v ≡ Some t → tree_of (value_of t) ≡ Some t

@@ -14,9 +14,9 @@ pub mod Supported
 pub mod Reading
 pub mod JsonOf
 pub mod Values
+pub mod Meanings
 pub mod Limits
 pub mod Readable
 pub mod ReadError
 pub mod Laws
 pub mod Program
-pub mod Meanings

@@ -14,6 +14,7 @@ ghost use Rattle.tree_core.specs.Views.{part_of};
 use crate::kind::Kind;
 use crate::literals::is_fixed;
 use crate::node::{Field, FieldList, Node, NodeList, at};
+use crate::program::Program;
 use crate::rows::row;
 use crate::table::{Class, Column, word_list};
 use oxc_estree::{ESTree, JsonStr, Serializer};
@@ -131,9 +132,19 @@ fn write_null<S: Serializer>(marked: bool, serializer: &mut S) -> Result<(), All
     ().serialize(serializer)
 }
 
-/// Writes the node.
+impl ESTree for Program {
+    ghost use Rattle.tree_core.specs.Values.{meaning_of};
+
+    ghost meaning = { λ p _. meaning_of p };
+
+    fn serialize<S: Serializer>(&self, serializer: &mut S) -> Result<(), AllocError> {
+        write_node(self.root(), serializer)
+    }
+}
+
+// Writes a node.
 #[cycle(write)]
-pub(crate) fn write_node<S: Serializer>(node: &Node, serializer: &mut S) -> Result<(), AllocError>
+fn write_node<S: Serializer>(node: &Node, serializer: &mut S) -> Result<(), AllocError>
     ensures ok {
         OnOk result (S.out serializer.new
             ≡ wrote (S.out serializer.old) (spec.node_meaning node.now)) }
