@@ -280,7 +280,7 @@ shared_left : (marked : Bool) (fields : Parts) (columns : List RowColumn) (i : �
     → are_paired (map column_of (drop i columns)) ≡ true
     → left marked fields columns i
     ≡ shared_field marked outer (column_of c) p (option_map column_of (slice_get columns (i + 1))) (part_at fields (i + 1))
-      ++ left marked fields columns (i + 2)
+    ++ left marked fields columns (i + 2)
 shared_left marked fields columns i c p outer found here shared paired =
     let k = column_of c in
     let cs = map column_of (drop (i + 1) columns) in

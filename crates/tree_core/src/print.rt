@@ -82,14 +82,12 @@ fn write_field<T: ESTree, S: Serializer>(
     value: &T,
     serializer: &mut S,
 ) -> Result<(), AllocError>
-    ensures ok {
-        OnOk result (S.out serializer.new
-            ≡ (add_field (inside first (S.out serializer.old)) key.now
-                (T.meaning value.now (flags (S.out serializer.old)))).out) }
-    ensures refused {
-        OnErr result (IsCutShort (S.out serializer.old) (S.out serializer.new)
-            (add_field (inside first (S.out serializer.old)) key.now
-                (T.meaning value.now (flags (S.out serializer.old)))).out) }
+    ensures ok { OnOk result (S.out serializer.new
+        ≡ (add_field (inside first (S.out serializer.old)) key.now
+        (T.meaning value.now (flags (S.out serializer.old)))).out) }
+    ensures refused { OnErr result (IsCutShort (S.out serializer.old) (S.out serializer.new)
+        (add_field (inside first (S.out serializer.old)) key.now
+        (T.meaning value.now (flags (S.out serializer.old)))).out) }
 {
     serializer.begin_field(key, first)?;
     value.serialize(serializer)?;
@@ -104,12 +102,10 @@ fn write_head<S: Serializer>(
     end: u32,
     serializer: &mut S,
 ) -> Result<(), AllocError>
-    ensures ok {
-        OnOk result (S.out serializer.new
-            ≡ (add_fields (new_struct (S.out serializer.old)) (spec.head_fields name.now start end)).out) }
-    ensures refused {
-        OnErr result (IsCutShort (S.out serializer.old) (S.out serializer.new)
-            (add_fields (new_struct (S.out serializer.old)) (spec.head_fields name.now start end)).out) }
+    ensures ok { OnOk result (S.out serializer.new
+        ≡ (add_fields (new_struct (S.out serializer.old)) (spec.head_fields name.now start end)).out) }
+    ensures refused { OnErr result (IsCutShort (S.out serializer.old) (S.out serializer.new)
+        (add_fields (new_struct (S.out serializer.old)) (spec.head_fields name.now start end)).out) }
 {
     serializer.begin_struct()?;
     write_field("type", true, &JsonStr(name), serializer)?;
@@ -119,12 +115,10 @@ fn write_head<S: Serializer>(
 
 // Writes null, and records where it stands if it is marked.
 fn write_null<S: Serializer>(marked: bool, serializer: &mut S) -> Result<(), AllocError>
-    ensures ok {
-        OnOk result (S.out serializer.new
-            ≡ wrote (S.out serializer.old) (spec.null_meaning marked)) }
-    ensures refused {
-        OnErr result (IsCutShort (S.out serializer.old) (S.out serializer.new)
-            (wrote (S.out serializer.old) (spec.null_meaning marked))) }
+    ensures ok { OnOk result (S.out serializer.new
+        ≡ wrote (S.out serializer.old) (spec.null_meaning marked)) }
+    ensures refused { OnErr result (IsCutShort (S.out serializer.old) (S.out serializer.new)
+        (wrote (S.out serializer.old) (spec.null_meaning marked))) }
 {
     if marked {
         serializer.record_fix_path()?;
@@ -145,12 +139,10 @@ impl ESTree for Program {
 // Writes a node.
 #[cycle(write)]
 fn write_node<S: Serializer>(node: &Node, serializer: &mut S) -> Result<(), AllocError>
-    ensures ok {
-        OnOk result (S.out serializer.new
-            ≡ wrote (S.out serializer.old) (spec.node_meaning node.now)) }
-    ensures refused {
-        OnErr result (IsCutShort (S.out serializer.old) (S.out serializer.new)
-            (wrote (S.out serializer.old) (spec.node_meaning node.now))) }
+    ensures ok { OnOk result (S.out serializer.new
+        ≡ wrote (S.out serializer.old) (spec.node_meaning node.now)) }
+    ensures refused { OnErr result (IsCutShort (S.out serializer.old) (S.out serializer.new)
+        (wrote (S.out serializer.old) (spec.node_meaning node.now))) }
 {
     let row = row(node.kind);
     let marked = is_marked(node);
@@ -167,14 +159,12 @@ fn write_fields<S: Serializer>(
     serializer: &mut S,
 ) -> Result<(), AllocError>
     requires { spec.are_paired (map column_of columns.now) ≡ true }
-    ensures ok {
-        OnOk result (S.out serializer.new
-            ≡ closed (add_fields (inside false (S.out serializer.old))
-                (spec.field_meanings marked fields.now (map column_of columns.now)))) }
-    ensures refused {
-        OnErr result (IsCutShort (S.out serializer.old) (S.out serializer.new)
-            (closed (add_fields (inside false (S.out serializer.old))
-                (spec.field_meanings marked fields.now (map column_of columns.now))))) }
+    ensures ok { OnOk result (S.out serializer.new
+        ≡ closed (add_fields (inside false (S.out serializer.old))
+        (spec.field_meanings marked fields.now (map column_of columns.now)))) }
+    ensures refused { OnErr result (IsCutShort (S.out serializer.old) (S.out serializer.new)
+        (closed (add_fields (inside false (S.out serializer.old))
+        (spec.field_meanings marked fields.now (map column_of columns.now))))) }
 {
     let mut i = 0;
     while i < columns.len() {
@@ -207,14 +197,12 @@ fn write_single<S: Serializer>(
     marked: bool,
     serializer: &mut S,
 ) -> Result<(), AllocError>
-    ensures ok {
-        OnOk result (S.out serializer.new
-            ≡ (add_fields (inside false (S.out serializer.old))
-                (spec.single_field marked (column_of column.now) (part_of field.now))).out) }
-    ensures refused {
-        OnErr result (IsCutShort (S.out serializer.old) (S.out serializer.new)
-            (add_fields (inside false (S.out serializer.old))
-                (spec.single_field marked (column_of column.now) (part_of field.now))).out) }
+    ensures ok { OnOk result (S.out serializer.new
+        ≡ (add_fields (inside false (S.out serializer.old))
+        (spec.single_field marked (column_of column.now) (part_of field.now))).out) }
+    ensures refused { OnErr result (IsCutShort (S.out serializer.old) (S.out serializer.new)
+        (add_fields (inside false (S.out serializer.old))
+        (spec.single_field marked (column_of column.now) (part_of field.now))).out) }
 {
     if column.omit && is_empty(field) {
         return Ok(());
@@ -233,21 +221,21 @@ fn write_shared<S: Serializer>(
     marked: bool,
     serializer: &mut S,
 ) -> Result<(), AllocError>
-    ensures ok {
-        OnOk result (S.out serializer.new
-            ≡ (add_fields (inside false (S.out serializer.old))
-                (spec.shared_field marked outer.now (column_of column.now) (part_of field.now)
-                    (option_map (λ c. column_of c.now) next_column.entry)
-                    (option_map (λ f. part_of f.now) next.entry))).out) }
-    ensures refused {
-        OnErr result (IsCutShort (S.out serializer.old) (S.out serializer.new)
-            (add_fields (inside false (S.out serializer.old))
-                (spec.shared_field marked outer.now (column_of column.now) (part_of field.now)
-                    (option_map (λ c. column_of c.now) next_column.entry)
-                    (option_map (λ f. part_of f.now) next.entry))).out) }
+    ensures ok { OnOk result (S.out serializer.new
+        ≡ (add_fields (inside false (S.out serializer.old))
+        (spec.shared_field marked outer.now (column_of column.now) (part_of field.now)
+        (option_map (λ c. column_of c.now) next_column.entry)
+        (option_map (λ f. part_of f.now) next.entry))).out) }
+    ensures refused { OnErr result (IsCutShort (S.out serializer.old) (S.out serializer.new)
+        (add_fields (inside false (S.out serializer.old))
+        (spec.shared_field marked outer.now (column_of column.now) (part_of field.now)
+        (option_map (λ c. column_of c.now) next_column.entry)
+        (option_map (λ f. part_of f.now) next.entry))).out) }
 {
     let Some(next) = next else { return Ok(()) };
-    let Some(next_column) = next_column else { return Ok(()) };
+    let Some(next_column) = next_column else {
+        return Ok(())
+    };
     if is_left_out(column.class, field) {
         return Ok(());
     }
@@ -267,20 +255,25 @@ fn write_pair<S: Serializer>(
     marked: bool,
     serializer: &mut S,
 ) -> Result<(), AllocError>
-    ensures ok {
-        OnOk result (S.out serializer.new
-            ≡ wrote (S.out serializer.old)
-                (spec.pair_meaning marked (column_of column.now) (part_of field.now)
-                    (column_of next_column.now) (part_of next.now))) }
-    ensures refused {
-        OnErr result (IsCutShort (S.out serializer.old) (S.out serializer.new)
-            (wrote (S.out serializer.old)
-                (spec.pair_meaning marked (column_of column.now) (part_of field.now)
-                    (column_of next_column.now) (part_of next.now)))) }
+    ensures ok { OnOk result (S.out serializer.new
+        ≡ wrote (S.out serializer.old)
+        (spec.pair_meaning marked (column_of column.now) (part_of field.now)
+        (column_of next_column.now) (part_of next.now))) }
+    ensures refused { OnErr result (IsCutShort (S.out serializer.old) (S.out serializer.new)
+        (wrote (S.out serializer.old)
+        (spec.pair_meaning marked (column_of column.now) (part_of field.now)
+        (column_of next_column.now) (part_of next.now)))) }
 {
     serializer.begin_struct()?;
     write_member(column.key, true, field, column.class, marked, serializer)?;
-    write_member(next_column.key, false, next, next_column.class, marked, serializer)?;
+    write_member(
+        next_column.key,
+        false,
+        next,
+        next_column.class,
+        marked,
+        serializer,
+    )?;
     serializer.end_struct(false)
 }
 
@@ -294,14 +287,12 @@ fn write_member<S: Serializer>(
     marked: bool,
     serializer: &mut S,
 ) -> Result<(), AllocError>
-    ensures ok {
-        OnOk result (S.out serializer.new
-            ≡ (add_field (inside first (S.out serializer.old)) key.now
-                (spec.part_meaning marked class (part_of field.now))).out) }
-    ensures refused {
-        OnErr result (IsCutShort (S.out serializer.old) (S.out serializer.new)
-            (add_field (inside first (S.out serializer.old)) key.now
-                (spec.part_meaning marked class (part_of field.now))).out) }
+    ensures ok { OnOk result (S.out serializer.new
+        ≡ (add_field (inside first (S.out serializer.old)) key.now
+        (spec.part_meaning marked class (part_of field.now))).out) }
+    ensures refused { OnErr result (IsCutShort (S.out serializer.old) (S.out serializer.new)
+        (add_field (inside first (S.out serializer.old)) key.now
+        (spec.part_meaning marked class (part_of field.now))).out) }
 {
     serializer.begin_field(key, first)?;
     write_part(field, class, marked, serializer)?;
@@ -316,12 +307,10 @@ fn write_part<S: Serializer>(
     marked: bool,
     serializer: &mut S,
 ) -> Result<(), AllocError>
-    ensures ok {
-        OnOk result (S.out serializer.new
-            ≡ wrote (S.out serializer.old) (spec.part_meaning marked class (part_of field.now))) }
-    ensures refused {
-        OnErr result (IsCutShort (S.out serializer.old) (S.out serializer.new)
-            (wrote (S.out serializer.old) (spec.part_meaning marked class (part_of field.now)))) }
+    ensures ok { OnOk result (S.out serializer.new
+        ≡ wrote (S.out serializer.old) (spec.part_meaning marked class (part_of field.now))) }
+    ensures refused { OnErr result (IsCutShort (S.out serializer.old) (S.out serializer.new)
+        (wrote (S.out serializer.old) (spec.part_meaning marked class (part_of field.now)))) }
 {
     match field {
         Field::Empty => write_null(marked && is_value_class(class), serializer),
@@ -336,12 +325,10 @@ fn write_part<S: Serializer>(
 
 #[cycle(write)]
 fn write_nodes<S: Serializer>(nodes: &NodeList, serializer: &mut S) -> Result<(), AllocError>
-    ensures ok {
-        OnOk result (S.out serializer.new
-            ≡ wrote (S.out serializer.old) (list_of (spec.item_meanings nodes.now))) }
-    ensures refused {
-        OnErr result (IsCutShort (S.out serializer.old) (S.out serializer.new)
-            (wrote (S.out serializer.old) (list_of (spec.item_meanings nodes.now)))) }
+    ensures ok { OnOk result (S.out serializer.new
+        ≡ wrote (S.out serializer.old) (list_of (spec.item_meanings nodes.now))) }
+    ensures refused { OnErr result (IsCutShort (S.out serializer.old) (S.out serializer.new)
+        (wrote (S.out serializer.old) (list_of (spec.item_meanings nodes.now)))) }
 {
     serializer.begin_sequence()?;
     for i in 0..nodes.len() {
@@ -357,14 +344,12 @@ fn write_element<S: Serializer>(
     item: &Option<Node>,
     serializer: &mut S,
 ) -> Result<(), AllocError>
-    ensures ok {
-        OnOk result (S.out serializer.new
-            ≡ (add_element (spec.inside_list index (S.out serializer.old))
-                (spec.item_meaning item.now)).out) }
-    ensures refused {
-        OnErr result (IsCutShort (S.out serializer.old) (S.out serializer.new)
-            (add_element (spec.inside_list index (S.out serializer.old))
-                (spec.item_meaning item.now)).out) }
+    ensures ok { OnOk result (S.out serializer.new
+        ≡ (add_element (spec.inside_list index (S.out serializer.old))
+        (spec.item_meaning item.now)).out) }
+    ensures refused { OnErr result (IsCutShort (S.out serializer.old) (S.out serializer.new)
+        (add_element (spec.inside_list index (S.out serializer.old))
+        (spec.item_meaning item.now)).out) }
 {
     serializer.begin_element(index)?;
     write_item(item, serializer)?;
@@ -374,12 +359,10 @@ fn write_element<S: Serializer>(
 
 #[cycle(write)]
 fn write_item<S: Serializer>(item: &Option<Node>, serializer: &mut S) -> Result<(), AllocError>
-    ensures ok {
-        OnOk result (S.out serializer.new
-            ≡ wrote (S.out serializer.old) (spec.item_meaning item.now)) }
-    ensures refused {
-        OnErr result (IsCutShort (S.out serializer.old) (S.out serializer.new)
-            (wrote (S.out serializer.old) (spec.item_meaning item.now))) }
+    ensures ok { OnOk result (S.out serializer.new
+        ≡ wrote (S.out serializer.old) (spec.item_meaning item.now)) }
+    ensures refused { OnErr result (IsCutShort (S.out serializer.old) (S.out serializer.new)
+        (wrote (S.out serializer.old) (spec.item_meaning item.now))) }
 {
     match item {
         Some(node) => write_node(node, serializer),

@@ -14,7 +14,7 @@ returns-clause-refused g c =
     let name = plain (string (units_of c.args.name.now)) in
     let start = plain (whole (pos c.args.start)) in
     let so_far : g.S.Serializer.out c.write_field-2.new.serializer
-        ≡ (add_fields (new_struct o) (field (codes "type") name ∷ field (codes "start") start ∷ [])).out =
+    ≡ (add_fields (new_struct o) (field (codes "type") name ∷ field (codes "start") start ∷ [])).out =
     c.in_ok-write_field-2.ensures.ok
     ∙ ap (λ (p : Out). (add_field (inside false p) (codes "start") start).out) (c.in_ok-write_field.ensures.ok
     ∙ ap (λ (p : Out). (add_field (inside true p) (codes "type") name).out) c.in_ok-begin_struct.ensures.ok) in
