@@ -1,0 +1,11 @@
+-- What a `ElementId` is to a contract.
+use Rattle.std.specs.Prelude.{ℕ}
+use Rattle.syntax_sem.specs.declared.class.ElementId.{ElementId}
+
+-- the number that it stands for
+abbrev pub number_of : ElementId → ℕ
+number_of id = id.0
+
+-- the id that stands for a number
+abbrev pub id_of : ℕ → ElementId
+id_of number = record { 0 = number }

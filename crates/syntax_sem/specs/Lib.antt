@@ -1,0 +1,16 @@
+pub mod Bits
+pub mod ClassId
+pub mod ElementId
+pub mod ElementKind
+pub mod Equality
+pub mod NodeFlags
+pub mod NodeId
+pub mod RedeclarationId
+pub mod Reference
+pub mod ReferenceFlags
+pub mod ReferenceId
+pub mod ScopeFlags
+pub mod ScopeId
+pub mod SemanticId
+pub mod SymbolFlags
+pub mod SymbolId

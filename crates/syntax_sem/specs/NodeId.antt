@@ -1,0 +1,11 @@
+-- What a `NodeId` is to a contract.
+use Rattle.std.specs.Prelude.{ℕ}
+use Rattle.syntax_sem.specs.declared.node.NodeId.{NodeId}
+
+-- the number that it stands for
+abbrev pub number_of : NodeId → ℕ
+number_of id = id.0
+
+-- the id that stands for a number
+abbrev pub id_of : ℕ → NodeId
+id_of number = record { 0 = number }

@@ -1,0 +1,11 @@
+-- What a `ReferenceId` is to a contract.
+use Rattle.std.specs.Prelude.{ℕ}
+use Rattle.syntax_sem.specs.declared.reference.ReferenceId.{ReferenceId}
+
+-- the number that it stands for
+abbrev pub number_of : ReferenceId → ℕ
+number_of id = id.0
+
+-- the id that stands for a number
+abbrev pub id_of : ℕ → ReferenceId
+id_of number = record { 0 = number }

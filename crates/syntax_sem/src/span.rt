@@ -1,0 +1,25 @@
+//! Where a piece of source text lies.
+
+ghost use Rattle.std.specs.Prelude.{◌≡◌};
+ghost use Rattle.syntax_sem.specs.Equality.{DecidesEquality};
+
+/// A piece of source text, by the offsets of its first byte and of the byte after its last.
+#[derive(Clone, Copy, Debug, PartialEq, Eq)]
+pub struct Span {
+    pub start: u32,
+    pub end: u32,
+}
+
+impl Span {
+    /// The span from `start` up to `end`.
+    pub fn new(start: u32, end: u32) -> Self
+        ensures { result ≡ record { start = start; end = end } }
+    {
+        Span { start, end }
+    }
+}
+
+/// The law that `==` holds exactly between spans that are the same.
+pub fn spans_are_equal_exactly()
+    ensures { DecidesEquality ⟦<Span as PartialEq>⟧.eq }
+{}
