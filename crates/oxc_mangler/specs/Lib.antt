@@ -1,0 +1,10 @@
+pub mod Options
+pub mod ShortNames
+pub mod Kept
+pub mod Groups
+pub mod FreeNames
+pub mod Slots
+pub mod GivenNames
+pub mod PrivateNumbers
+pub mod Mangled
+pub mod Open
