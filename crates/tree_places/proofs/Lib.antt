@@ -5,3 +5,4 @@ pub mod Walks
 pub mod Numbers
 pub mod Lineages
 pub mod Rising
+pub mod Homed

@@ -1,10 +1,10 @@
 -- What holds of each item of a list, and of each item and each later one.
 use Rattle.std.specs.Prelude.{List, [], ◌∷◌, ◌++◌, ⊤}
+use Rattle.std.specs.List.{AllByRecursion}
 use Rattle.tree_places.specs.Open.{all_open}
 
 abbrev pub AllOf : {X : Type 0} → (X → Type 0) → List X → Type 0
-AllOf P [] = ⊤
-AllOf P (x ∷ xs) = P x × AllOf P xs
+AllOf P xs = AllByRecursion P xs
 
 -- R holds of each item and each later one
 abbrev pub PairsOf : {X : Type 0} → (X → X → Type 0) → List X → Type 0

@@ -1,11 +1,11 @@
 -- The laws on the places of a tree.
-use Rattle.std.specs.Prelude.{◌≡◌, ◌≤◌, ◌⊎◌, ℕ, suc, true, List, [], ◌∷◌, map, length, ⊤}
-use Rattle.std.specs.List.{list_any}
+use Rattle.std.specs.Prelude.{◌≡◌, ◌≤◌, ◌⊎◌, ℕ, suc, true, List, [], ◌∷◌, map, length, ⊤, IsTrue}
+use Rattle.std.specs.List.{AllByRecursion, list_any}
 use Rattle.tree_nodes.specs.Tree.{Parts}
 use Rattle.tree_places.specs.Lineage.{found, found_by, lines_of, openers_of}
 use Rattle.tree_places.specs.Places.{names, scopes, sites, withs}
 use Rattle.tree_places.specs.Renaming.{IsRenamed}
-use Rattle.tree_places.specs.Scopes.{Scope, same_scope}
+use Rattle.tree_places.specs.Scopes.{Scope, is_inside, same_scope}
 
 -- a tree and the same tree renamed have the same sites, scopes, and scopes around WithStatements
 abbrev pub RenamingMovesNoPlace : Type 0
@@ -29,3 +29,7 @@ AreNumbered before (s ∷ ss) =
 -- the numbers of places and of scopes rise in printing order: the n-th scope, from 0, has the number n and lies in an earlier one; and each place has a name
 abbrev pub NumbersRise : Type 0
 NumbersRise = (t : Parts) → RiseFrom 0 (map (λ s. s.node) (sites t)) × AreNumbered [] (scopes t) × (length (names t) ≡ length (sites t))
+
+-- the nearest var scope of each place is its scope or one further out
+abbrev pub VarScopesLieOutside : Type 0
+VarScopesLieOutside = (t : Parts) → AllByRecursion (λ s. IsTrue (is_inside s.setting.scope s.setting.var_scope)) (sites t)

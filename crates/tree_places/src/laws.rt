@@ -1,6 +1,11 @@
 //! The laws on places. The functions here do nothing: each has a law as its contract.
 
-ghost use Rattle.tree_places.specs.Laws.{NumbersRise, RenamingMovesNoPlace, ScopesAreNearest};
+ghost use Rattle.tree_places.specs.Laws.{
+  NumbersRise,
+  RenamingMovesNoPlace,
+  ScopesAreNearest,
+  VarScopesLieOutside,
+};
 
 /// The law that renaming moves no place: a tree and the same tree renamed have the same sites, the
 /// same scopes, and the same scopes around WithStatements.
@@ -19,4 +24,9 @@ pub fn scopes_are_nearest()
 /// n-th, from 0, has the number n and lies in an earlier one; and that each place has a name.
 pub fn numbers_rise()
     ensures { NumbersRise }
+{}
+
+/// The law that the var scope of a place is its scope or one further out.
+pub fn var_scopes_lie_outside()
+    ensures { VarScopesLieOutside }
 {}

@@ -6,4 +6,4 @@
 
 mod laws;
 
-pub use laws::{numbers_rise, renaming_moves_no_place, scopes_are_nearest};
+pub use laws::{numbers_rise, renaming_moves_no_place, scopes_are_nearest, var_scopes_lie_outside};
