@@ -1,0 +1,5 @@
+pub mod Runs
+pub mod Apart
+pub mod Together
+pub mod Fewest
+pub mod Order
