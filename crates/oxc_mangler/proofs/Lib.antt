@@ -3,3 +3,4 @@ pub mod Apart
 pub mod Together
 pub mod Fewest
 pub mod Order
+pub mod Numbered

@@ -8,4 +8,5 @@ pub mod GivenNames
 pub mod PrivateNumbers
 pub mod Mangled
 pub mod Laws
+pub mod NameOrder
 pub mod Open

@@ -1,5 +1,6 @@
 //! The laws on slots. The functions here do nothing: each has a law as its contract.
 
+ghost use Rattle.oxc_mangler.specs.NameOrder.{LengthsNeverFall, ShortIsOneToOne};
 ghost use Rattle.oxc_mangler.specs.Laws.{
   LiveTogether,
   LiveUpToHome,
@@ -28,4 +29,14 @@ pub fn slots_never_clash()
 pub fn slots_are_fewest()
     ensures fewest { SlotsAreFewest }
     ensures reached { WidthIsReached }
+{}
+
+/// The law that no two numbers have one short name.
+pub fn short_is_one_to_one()
+    ensures { ShortIsOneToOne }
+{}
+
+/// The law that lengths of short names never fall as the number grows.
+pub fn lengths_never_fall()
+    ensures { LengthsNeverFall }
 {}

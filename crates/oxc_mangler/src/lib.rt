@@ -3,4 +3,7 @@
 
 mod laws;
 
-pub use laws::{live_together, live_up_to_home, slots_are_fewest, slots_never_clash};
+pub use laws::{
+    lengths_never_fall, live_together, live_up_to_home, short_is_one_to_one, slots_are_fewest,
+    slots_never_clash,
+};
