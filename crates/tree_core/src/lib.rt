@@ -18,6 +18,7 @@ mod text;
 
 pub use kind::{KINDS, Kind};
 pub use laws::{printed_text_reads, reading_undoes_printing};
+pub use limits::is_too_large;
 pub use node::{Field, FieldList, Node, NodeList};
 pub use program::{Program, SourceType};
 pub use read::{ReadError, read_tree};
