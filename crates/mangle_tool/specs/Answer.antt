@@ -6,7 +6,7 @@ use Rattle.serde_json.specs.Data.{Data}
 use Rattle.tree_core.specs.JsonOf.{json_of}
 use Rattle.tree_core.specs.Limits.{is_too_large}
 use Rattle.tree_core.specs.Reading.{tree_of}
-use Rattle.tree_core.specs.Tree.{Tree}
+use Rattle.tree_nodes.specs.Tree.{Tree}
 use Rattle.tree_core.specs.Values.{meaning_of}
 use Rattle.mangle_tool.specs.Input.{IsNotJson, Parses, program_in}
 use Rattle.tree_core.specs.declared.read.ReadError.{ReadError}

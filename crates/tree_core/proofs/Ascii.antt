@@ -4,7 +4,7 @@ use Rattle.std.specs.List.{list_all}
 use Rattle.std.proofs.lemmas.Str.{IsUtf8-from_ascii}
 use Rattle.json_text.specs.Units.{text_of_units}
 use Rattle.json_text.proofs.Units.{text_of_units-units_of, units_of-IsAscii}
-use Rattle.tree_core.proofs.Cases.{both}
+use Rattle.tree_nodes.proofs.Cases.{both}
 
 abbrev pub is_ascii : List ℕ → Bool
 is_ascii bytes = list_all (λ c. nat_lt c 128) bytes

@@ -2,12 +2,12 @@
 use Rattle.std.proofs.Common.{◌≡◌, ℕ, List, Bool, true, false, ◌&&◌, Option, Some, None, if◌then◌else◌, refl, sym, ap, ◌∙◌, true≢false, codes}
 use Rattle.json_text.specs.Json.{Json, Members, member}
 use Rattle.tree_core.specs.Reading.{holder, outer_key, part_from}
-use Rattle.tree_core.specs.Table.{Column}
-use Rattle.tree_core.specs.Tree.{Atom, Parts, Tree, atom, empty, flag, is_empty, text, units, whole, word}
+use Rattle.tree_nodes.specs.Table.{Column}
+use Rattle.tree_nodes.specs.Tree.{Atom, Parts, Tree, atom, empty, flag, is_empty, text, units, whole, word}
 use Rattle.tree_core.specs.Values.{atom_value, held, is_null_atom, without_next}
-use Rattle.tree_core.specs.declared.table.Class.{Class as FieldClass}
-use Rattle.tree_core.specs.declared.table.Class.TheVariants.{Cooked, Flags, Pattern, Raw}
-use Rattle.tree_core.proofs.Cases.{none_some}
+use Rattle.tree_nodes.specs.declared.table.Class.{Class as FieldClass}
+use Rattle.tree_nodes.specs.declared.table.Class.TheVariants.{Cooked, Flags, Pattern, Raw}
+use Rattle.tree_nodes.proofs.Cases.{none_some}
 use Rattle.tree_core.proofs.Fits.{inner_part}
 use Rattle.tree_core.proofs.RowFacts.{is_cooked, is_first, is_flags, is_outer, takes_next}
 

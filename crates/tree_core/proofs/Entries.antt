@@ -2,11 +2,11 @@
 use Rattle.std.proofs.Common.{◌≡◌, ℕ, List, [], ◌∷◌, ◌++◌, Bool, true, false, ◌||◌, Option, Some, None, option_map, option_and_then, refl, sym, ap, ◌∙◌, bytes_eq, true≢false}
 use Rattle.json_text.specs.Json.{Json, Members, no_members, member}
 use Rattle.json_text.specs.HasText.{AreCodeUnits, HasText, MembersHaveText}
-use Rattle.tree_core.specs.Look.{onto}
+use Rattle.tree_nodes.specs.Look.{onto}
 use Rattle.tree_core.specs.Reading.{are_distinct, find_member, is_listed, only_known, outer_key, part_in, run_of}
-use Rattle.tree_core.specs.Table.{Column}
-use Rattle.tree_core.specs.Tree.{Parts, atom, child, done, many}
-use Rattle.tree_core.proofs.Cases.{bytes_differ, bytes_same, bytes_turned, map_some, neither, or_true, some_same, then_some}
+use Rattle.tree_nodes.specs.Table.{Column}
+use Rattle.tree_nodes.specs.Tree.{Parts, atom, child, done, many}
+use Rattle.tree_nodes.proofs.Cases.{bytes_differ, bytes_same, bytes_turned, map_some, neither, or_true, some_same, then_some}
 use Rattle.tree_core.proofs.Found.{part_found, part_in-part_found}
 
 -- a column, and what is read from it

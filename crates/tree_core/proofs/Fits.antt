@@ -5,12 +5,12 @@ use Rattle.json_text.specs.Json.{Json}
 use Rattle.json_text.specs.HasText.{HasText}
 use Rattle.tree_core.specs.Reading.{is_null_value, one, or_null, text_in, units_in, part_from, holder}
 use Rattle.tree_core.specs.Supported.{is_supported}
-use Rattle.tree_core.specs.Table.{Column, row}
-use Rattle.tree_core.specs.Tree.{Atom, Parts, Tree, alone, atom, child, done, empty, is_empty, many, text, units}
+use Rattle.tree_nodes.specs.Table.{Column, row}
+use Rattle.tree_nodes.specs.Tree.{Atom, Parts, Tree, alone, atom, child, done, empty, is_empty, many, text, units}
 use Rattle.tree_core.specs.Values.{atom_value, is_null_atom}
-use Rattle.tree_core.specs.declared.kind.Kind.{Kind}
-use Rattle.tree_core.specs.declared.table.Class.{Class as FieldClass}
-use Rattle.tree_core.specs.declared.table.Class.TheVariants.{Cooked, Flags, Pattern, Raw}
+use Rattle.tree_nodes.specs.declared.kind.Kind.{Kind}
+use Rattle.tree_nodes.specs.declared.table.Class.{Class as FieldClass}
+use Rattle.tree_nodes.specs.declared.table.Class.TheVariants.{Cooked, Flags, Pattern, Raw}
 
 -- the part that a value is by its class, out of the object that holds it
 abbrev pub inner_part : FieldClass → Json → Option Tree → (Bool → Option Parts) → Option Parts

@@ -3,23 +3,24 @@ use Rattle.std.proofs.Common.{◌≡◌, ℕ, ◌^◌, ◌<◌, pos, List, [], �
 use Rattle.json_text.specs.Json.{Json, null, truth, whole as number, string, list, Items, item, Members, member}
 use Rattle.json_text.specs.HasText.{HasText, ItemsHaveText, MembersHaveText}
 use Rattle.json_text.proofs.Units.{AreCodeUnits-are_code_units, AreCodeUnits-text_of_units}
-use Rattle.tree_core.specs.Look.{onto}
+use Rattle.tree_nodes.specs.Look.{onto}
 use Rattle.tree_core.specs.Reading.{are_distinct, find_member, is_listed, is_null_value, is_object, is_paired, items_from, list_of, offset_of, one, only_known, or_hole, part_from, part_in, row_for, run_of, shape_from, shape_of, supported_row}
 use Rattle.tree_core.specs.Supported.{is_supported}
-use Rattle.tree_core.specs.Table.{Column, Row, row}
-use Rattle.tree_core.specs.Tree.{Atom, Parts, Tree, alone, atom, child, done, empty, flag, many, text, units, whole, word}
+use Rattle.tree_nodes.specs.Table.{Column, Row, row}
+use Rattle.tree_nodes.specs.Tree.{Atom, Parts, Tree, alone, atom, child, done, empty, flag, many, text, units, whole, word}
 use Rattle.tree_core.specs.Values.{atom_value, fields_value, items_value, node_value, value_of}
-use Rattle.tree_core.specs.declared.kind.Kind.{Kind}
-use Rattle.tree_core.specs.declared.kind.Kind.TheVariants.{Literal}
-use Rattle.tree_core.specs.declared.table.Class.{Class as FieldClass}
-use Rattle.tree_core.specs.declared.table.Class.TheVariants.{LiteralValue}
+use Rattle.tree_nodes.specs.declared.kind.Kind.{Kind}
+use Rattle.tree_nodes.specs.declared.kind.Kind.TheVariants.{Literal}
+use Rattle.tree_nodes.specs.declared.table.Class.{Class as FieldClass}
+use Rattle.tree_nodes.specs.declared.table.Class.TheVariants.{LiteralValue}
 use Rattle.tree_core.proofs.Ascii.{text_of_ascii}
-use Rattle.tree_core.proofs.Cases.{bytes_turned}
+use Rattle.tree_nodes.proofs.Cases.{bytes_turned}
 use Rattle.tree_core.proofs.Entries.{AreEntries, Entry, all_columns, all_members, all_parts, entries_distinct, entries_known, entries_read, entries_text, listed_apart, not_found}
 use Rattle.tree_core.proofs.Classes.{sort_of}
 use Rattle.tree_core.proofs.Fits.{FitFields, FitItems, Fits, FitsHead, TakesList, TakesNode}
 use Rattle.tree_core.proofs.Listed.{Listed, Tail, atom_listed, nothing, one_more, plain_ordered}
-use Rattle.tree_core.proofs.RowFacts.{are_ordered, row_kind, row_named-name, row_sound}
+use Rattle.tree_core.proofs.RowFacts.{are_ordered, row_sound}
+use Rattle.tree_nodes.proofs.RowNames.{row_kind, row_named-name}
 
 -- ---- a node
 

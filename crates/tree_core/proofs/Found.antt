@@ -2,8 +2,8 @@
 use Rattle.std.proofs.Common.{◌≡◌, Bool, true, false, Option, Some, None, if◌then◌else◌, refl, bytes_eq}
 use Rattle.json_text.specs.Json.{Json, Members, no_members, member}
 use Rattle.tree_core.specs.Reading.{absent, find_member, list_of, outer_key, part_from, part_in, shape_of}
-use Rattle.tree_core.specs.Table.{Column}
-use Rattle.tree_core.specs.Tree.{Parts}
+use Rattle.tree_nodes.specs.Table.{Column}
+use Rattle.tree_nodes.specs.Tree.{Parts}
 
 -- the part of a column that a value is, or that a missing one is
 abbrev pub part_found : Column → Option Json → Option Parts

@@ -4,14 +4,14 @@ use Rattle.json_text.specs.Json.{Json, object, Members, no_members, member}
 use Rattle.json_text.specs.HasText.{AreCodeUnits, HasText}
 use Rattle.json_text.specs.Units.{are_code_units}
 use Rattle.json_text.proofs.Units.{AreCodeUnits-are_code_units}
-use Rattle.tree_core.specs.Look.{onto}
+use Rattle.tree_nodes.specs.Look.{onto}
 use Rattle.tree_core.specs.Reading.{absent, holder, is_listed, is_null_value, list_of, one, or_null, outer_key, part_from, shape_of, text_in}
-use Rattle.tree_core.specs.Table.{Column}
-use Rattle.tree_core.specs.Tree.{Atom, Parts, atom, child, done, empty, flag, is_empty, many, text, units, whole, word}
+use Rattle.tree_nodes.specs.Table.{Column}
+use Rattle.tree_nodes.specs.Tree.{Atom, Parts, atom, child, done, empty, flag, is_empty, many, text, units, whole, word}
 use Rattle.tree_core.specs.Values.{atom_value, fields_value, is_null_atom, put_member}
-use Rattle.tree_core.specs.declared.table.Class.{Class as FieldClass}
-use Rattle.tree_core.specs.declared.table.Class.TheVariants.{Cooked, Flags, Pattern, Raw, TextOr}
-use Rattle.tree_core.proofs.Cases.{both, bytes_equal, bytes_same, not_true}
+use Rattle.tree_nodes.specs.declared.table.Class.{Class as FieldClass}
+use Rattle.tree_nodes.specs.declared.table.Class.TheVariants.{Cooked, Flags, Pattern, Raw, TextOr}
+use Rattle.tree_nodes.proofs.Cases.{both, bytes_equal, bytes_same, not_true}
 use Rattle.tree_core.proofs.Entries.{AreEntries, Cell, Entry, HasOptionText, IsEntry, all_columns, all_members, all_parts, columns_of, parts_of, put}
 use Rattle.tree_core.proofs.Classes.{Sort, is_empty-atom, key_of_class, never_takes, of_cooked, of_flags, of_pattern, of_plain, of_raw, own_key, plain_class, put_at, is_cooked-Cooked, is_flags-Flags}
 use Rattle.tree_core.proofs.Fits.{FitFields, FitsAtom, FitsNext}

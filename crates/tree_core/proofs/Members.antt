@@ -22,7 +22,7 @@ use Rattle.serde_json.proofs.Views.{Entry}
 use Rattle.tree_core.specs.JsonOf.{json_of, members_of}
 use Rattle.tree_core.specs.Readable.{is_ascii, is_readable, are_readable}
 use Rattle.tree_core.specs.Reading.{find_member, text_in, is_blank, are_distinct, outer_key, is_known, is_listed}
-use Rattle.tree_core.specs.Table.{Column}
+use Rattle.tree_nodes.specs.Table.{Column}
 
 -- ---- keys
 

@@ -10,25 +10,25 @@ use Rattle.oxc_estree.specs.Refused.{IsCutShort}
 use Rattle.oxc_estree.proofs.Growth.{Grows-add_fields, Grows-refl, cut_short_after}
 use Rattle.oxc_estree.proofs.ListUnderWay.{IsListUnderWay, element_refused, element_written}
 use Rattle.oxc_estree.proofs.StructUnderWay.{IsStructUnderWay, fields_refused, fields_written, struct_begins}
-use Rattle.tree_core.specs.Look.{are_items, item_at, onto, part_at, part_size, parts_len, past}
+use Rattle.tree_nodes.specs.Look.{are_items, item_at, onto, part_at, part_size, parts_len, past}
 use Rattle.tree_core.specs.Meanings.{are_paired, field, field_meanings, has_next, head_fields, inside, inside_list, is_always, is_left_out, item_meaning, item_meanings, node_meaning, object_key, pair_meaning, part_meaning, put_field, shared_field, shared_key, single_field, atom_meaning}
-use Rattle.tree_core.specs.Rows.{column_of}
-use Rattle.tree_core.specs.Table.{Column, Row, row, word_list}
-use Rattle.tree_core.specs.Tree.{Atom, Parts, Tree, atom, child, done, empty, is_empty, many}
+use Rattle.tree_nodes.specs.Rows.{column_of}
+use Rattle.tree_nodes.specs.Table.{Column, Row, row, word_list}
+use Rattle.tree_nodes.specs.Tree.{Atom, Parts, Tree, atom, child, done, empty, is_empty, many}
 use Rattle.tree_core.specs.Values.{is_marked, is_null_atom, word_text}
-use Rattle.tree_core.specs.Views.{item_of, part_of}
-use Rattle.tree_core.specs.declared.kind.Kind.{Kind}
-use Rattle.tree_core.specs.declared.kind.Kind.TheVariants.{Program}
-use Rattle.tree_core.specs.declared.node.Field.{Field as NodeField}
-use Rattle.tree_core.specs.declared.table.Class.{Class as FieldClass}
-use Rattle.tree_core.specs.declared.table.Column.{Column as RowColumn}
-use Rattle.tree_core.specs.declared.table.Class.TheVariants.{Pattern, Raw, Word}
-use Rattle.tree_core.specs.declared.table.Mark.{Mark}
-use Rattle.tree_core.specs.declared.table.Mode.{Mode}
+use Rattle.tree_nodes.specs.Views.{item_of, part_of}
+use Rattle.tree_nodes.specs.declared.kind.Kind.{Kind}
+use Rattle.tree_nodes.specs.declared.kind.Kind.TheVariants.{Program}
+use Rattle.tree_nodes.specs.declared.node.Field.{Field as NodeField}
+use Rattle.tree_nodes.specs.declared.table.Class.{Class as FieldClass}
+use Rattle.tree_nodes.specs.declared.table.Column.{Column as RowColumn}
+use Rattle.tree_nodes.specs.declared.table.Class.TheVariants.{Pattern, Raw, Word}
+use Rattle.tree_nodes.specs.declared.table.Mark.{Mark}
+use Rattle.tree_nodes.specs.declared.table.Mode.{Mode}
 use Rattle.tree_core.proofs.Ascii.{is_ascii, text_of_ascii}
-use Rattle.tree_core.proofs.Cases.{both, none_some, not_true, some_same}
+use Rattle.tree_nodes.proofs.Cases.{both, none_some, not_true, some_same}
 use Rattle.tree_core.proofs.Classes.{is_empty-atom}
-use Rattle.tree_core.proofs.Lists.{past_end, past_item, past_len}
+use Rattle.tree_nodes.proofs.Lists.{past_end, past_item, past_len}
 use Rattle.tree_core.proofs.RowFacts.{ascii_words}
 
 -- in each row a field that shares its object stands before one that does so with no other

@@ -7,22 +7,22 @@ use Rattle.json_text.specs.Units.{units_of}
 use Rattle.json_text.proofs.Units.{units_of-text_of_units}
 use Rattle.oxc_estree.specs.Open.{Field, element_marks, field_marks, items_of, list_of, members_of, object_of}
 use Rattle.oxc_estree.specs.Out.{Meaning, Part, key, index}
-use Rattle.tree_core.specs.Literals.{case_from, case_of, is_fixed, with_value}
-use Rattle.tree_core.specs.declared.literals.LiteralCase.TheVariants as case
+use Rattle.tree_nodes.specs.Literals.{case_from, case_of, is_fixed, with_value}
+use Rattle.tree_nodes.specs.declared.literals.LiteralCase.TheVariants as case
 use Rattle.tree_core.specs.Meanings.{are_paired, atom_meaning, field, field_meanings, has_next, held_field, is_always, is_value_class, item_meanings, node_meaning, node_of, null_meaning, object_key, put_field, without_next}
 use Rattle.tree_core.specs.Reading.{holder, tree_of}
-use Rattle.tree_core.specs.Table.{Column, row}
-use Rattle.tree_core.specs.Tree.{Atom, Parts, Tree, atom, child, done, empty, flag, many, text, units, whole, word}
+use Rattle.tree_nodes.specs.Table.{Column, row}
+use Rattle.tree_nodes.specs.Tree.{Atom, Parts, Tree, atom, child, done, empty, flag, many, text, units, whole, word}
 use Rattle.tree_core.specs.Values.{atom_value, fields_paths, fields_value, fix_paths, is_marked, is_null_atom, items_paths, items_value, meaning_of, node_value, own_path, put_member, value_of}
 use Rattle.tree_core.specs.Values as values
-use Rattle.tree_core.specs.declared.kind.Kind.{Kind}
-use Rattle.tree_core.specs.declared.kind.Kind.TheVariants.{Literal, Program}
-use Rattle.tree_core.specs.declared.table.Class.{Class as FieldClass}
-use Rattle.tree_core.specs.declared.table.Class.TheVariants.{LiteralValue, Pattern, Raw}
-use Rattle.tree_core.specs.declared.table.Mark.{Mark}
-use Rattle.tree_core.specs.declared.table.Mode.{Mode}
+use Rattle.tree_nodes.specs.declared.kind.Kind.{Kind}
+use Rattle.tree_nodes.specs.declared.kind.Kind.TheVariants.{Literal, Program}
+use Rattle.tree_nodes.specs.declared.table.Class.{Class as FieldClass}
+use Rattle.tree_nodes.specs.declared.table.Class.TheVariants.{LiteralValue, Pattern, Raw}
+use Rattle.tree_nodes.specs.declared.table.Mark.{Mark}
+use Rattle.tree_nodes.specs.declared.table.Mode.{Mode}
 use Rattle.tree_core.proofs.Ascii.{is_ascii, text_of_ascii}
-use Rattle.tree_core.proofs.Cases.{both, none_some, not_true}
+use Rattle.tree_nodes.proofs.Cases.{both, none_some, not_true}
 use Rattle.tree_core.proofs.Fits.{FitFields, FitItems, Fits}
 use Rattle.tree_core.proofs.Printed.{put_always, rows_are_paired}
 use Rattle.tree_core.proofs.ReadsBack.{tree_fits}

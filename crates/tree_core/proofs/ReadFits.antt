@@ -6,22 +6,23 @@ use Rattle.json_text.specs.HasText.{AreCodeUnits}
 use Rattle.json_text.specs.Units.{are_code_units, text_of_units, units_of}
 use Rattle.json_text.proofs.Units.{text_of_units-units_of, IsUtf8-text_of_units, AreCodeUnits-units_of, AreCodeUnits-are_code_units, are_code_units-AreCodeUnits, AreCodeUnits-text_of_units}
 use Rattle.syntax_lex.specs.Identifier.{is_identifier_name}
-use Rattle.tree_core.specs.Look.{onto}
+use Rattle.tree_nodes.specs.Look.{onto}
 use Rattle.tree_core.specs.Reading.{absent, are_distinct, below, find_member, has_only, is_null_value, is_paired, items_from, list_of, offset_of, one, only_known, or_hole, or_null, outer_key, part_from, part_in, regex_part, row_for, run_of, shape_from, shape_of, supported_row, template_part, text_in, units_in, units_in_list, value_part, word_number}
 use Rattle.tree_core.specs.Supported.{is_supported}
-use Rattle.tree_core.specs.Table.{Column, Row, row, row_among, row_named, word_list}
-use Rattle.tree_core.specs.Tree.{Atom, Parts, Tree, Text, alone, atom, child, done, empty, flag, is_empty, many, text, units, whole, word}
-use Rattle.tree_core.specs.declared.kind.Kind.{Kind}
-use Rattle.tree_core.specs.declared.table.Class.{Class as FieldClass}
-use Rattle.tree_core.specs.declared.table.Class.TheVariants.{Cooked, Flag, Flags, Holes, LiteralValue, Many, ManyOr, Maybe, Name, One, Pattern, Raw, Text as TextClass, TextOr, Word}
-use Rattle.tree_core.specs.declared.table.Words.{Words}
+use Rattle.tree_nodes.specs.Table.{Column, Row, row, row_among, row_named, word_list}
+use Rattle.tree_nodes.specs.Tree.{Atom, Parts, Tree, Text, alone, atom, child, done, empty, flag, is_empty, many, text, units, whole, word}
+use Rattle.tree_nodes.specs.declared.kind.Kind.{Kind}
+use Rattle.tree_nodes.specs.declared.table.Class.{Class as FieldClass}
+use Rattle.tree_nodes.specs.declared.table.Class.TheVariants.{Cooked, Flag, Flags, Holes, LiteralValue, Many, ManyOr, Maybe, Name, One, Pattern, Raw, Text as TextClass, TextOr, Word}
+use Rattle.tree_nodes.specs.declared.table.Words.{Words}
 use Rattle.tree_core.proofs.Ascii.{is_ascii, text_of_ascii}
-use Rattle.tree_core.proofs.Cases.{both, if_some, map_some, none_some, some_same, then_some, bytes_equal}
+use Rattle.tree_nodes.proofs.Cases.{both, if_some, map_some, none_some, some_same, then_some, bytes_equal}
 use Rattle.tree_core.proofs.Found.{part_found, part_in-part_found}
-use Rattle.tree_core.specs.Kinds.{all_kinds}
+use Rattle.tree_nodes.specs.Kinds.{all_kinds}
 use Rattle.tree_core.proofs.Classes.{is_empty-atom, is_flags-Flags, key_of_class}
 use Rattle.tree_core.proofs.Fits.{FitFields, FitItems, Fits, FitsAtom, FitsNext, FitsPart, TakesList, TakesNode}
-use Rattle.tree_core.proofs.RowFacts.{are_followed, ascii_words, is_followed, row_kind, row_sound}
+use Rattle.tree_core.proofs.RowFacts.{are_followed, ascii_words, is_followed, row_sound}
+use Rattle.tree_nodes.proofs.RowNames.{row_kind}
 
 -- ---- values that are no objects
 

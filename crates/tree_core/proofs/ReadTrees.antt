@@ -5,8 +5,8 @@ use Rattle.tree_core.specs.declared.read.ReadError.{ReadError}
 use Rattle.tree_core.specs.declared.read.ReadError.TheVariants.{TooLarge, BadTree, Memory}
 use Rattle.tree_core.specs.ReadError.{Says}
 use Rattle.tree_core.specs.Reading.{shape_of, tree_of}
-use Rattle.tree_core.specs.Standing.{is_placed}
-use Rattle.tree_core.specs.Tree.{Tree}
+use Rattle.tree_nodes.specs.Standing.{is_placed}
+use Rattle.tree_nodes.specs.Tree.{Tree}
 
 abbrev if_placed : Tree → Option Tree
 if_placed t = if is_placed t then Some t else None

@@ -1,11 +1,11 @@
 -- The rows of the kinds that the reader takes have columns that it takes.
 use Rattle.std.proofs.Common.{◌≡◌, ℕ, List, [], ◌∷◌, Bool, true, false, true≢false, ◌&&◌, ◌||◌, not, Option, Some, bytes_eq, IsTrue, if◌then◌else◌, refl, sym, ap, ◌∙◌}
 use Rattle.std.specs.List.{list_all}
-use Rattle.tree_core.specs.declared.kind.Kind.{Kind}
-use Rattle.tree_core.specs.Kinds.{all_kinds, is_in, is_kind}
+use Rattle.tree_nodes.specs.declared.kind.Kind.{Kind}
+use Rattle.tree_nodes.specs.Kinds.{all_kinds, is_in, is_kind}
 use Rattle.tree_core.specs.Readable.{are_readable}
 use Rattle.tree_core.specs.Supported.{is_supported}
-use Rattle.tree_core.specs.Table.{Row, row, row_among, row_named}
+use Rattle.tree_nodes.specs.Table.{Row, row, row_among, row_named}
 
 abbrev reads_row : Kind → Bool
 reads_row k = not (is_supported (row k).kind) || are_readable (row k).columns

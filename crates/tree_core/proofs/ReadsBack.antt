@@ -5,10 +5,10 @@ use Rattle.json_text.specs.HasText.{HasText}
 use Rattle.json_text.proofs.Texts.{text_reads_alone}
 use Rattle.tree_core.specs.Laws.{PrintedTextReads}
 use Rattle.tree_core.specs.Reading.{shape_of, tree_of}
-use Rattle.tree_core.specs.Standing.{is_placed}
-use Rattle.tree_core.specs.Tree.{Tree}
+use Rattle.tree_nodes.specs.Standing.{is_placed}
+use Rattle.tree_nodes.specs.Tree.{Tree}
 use Rattle.tree_core.specs.Values.{value_of}
-use Rattle.tree_core.proofs.Cases.{if_some, some_same, then_some}
+use Rattle.tree_nodes.proofs.Cases.{if_some, some_same, then_some}
 use Rattle.tree_core.proofs.Fits.{Fits}
 use Rattle.tree_core.proofs.FitsBack.{tree_back}
 use Rattle.tree_core.proofs.ReadFits.{shape_fits}

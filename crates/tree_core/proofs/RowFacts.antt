@@ -4,15 +4,15 @@ use Rattle.std.specs.List.{list_all}
 use Rattle.std.proofs.Common.{◌≡◌, refl}
 use Rattle.json_text.specs.Units.{are_code_units}
 use Rattle.tree_core.specs.Reading.{is_listed}
-use Rattle.tree_core.specs.Table.{Column, Row, row, row_named, word_list}
+use Rattle.tree_nodes.specs.Table.{Column, Row, row, word_list}
 use Rattle.tree_core.proofs.Ascii.{is_ascii}
-use Rattle.tree_core.proofs.Cases.{both, not_true}
-use Rattle.tree_core.specs.declared.kind.Kind.{Kind}
-use Rattle.tree_core.specs.declared.kind.Kind.TheVariants.{Program, Hashbang, ExpressionStatement, BlockStatement, EmptyStatement, DebuggerStatement, ThisExpression, Super, ReturnStatement, ThrowStatement, LabeledStatement, BreakStatement, ContinueStatement, IfStatement, SwitchStatement, SwitchCase, TryStatement, CatchClause, WhileStatement, DoWhileStatement, ForStatement, ForInStatement, ForOfStatement, WithStatement, VariableDeclaration, VariableDeclarator, FunctionDeclaration, FunctionExpression, ArrowFunctionExpression, ClassDeclaration, ClassExpression, ClassBody, MethodDefinition, PropertyDefinition, StaticBlock, ArrayExpression, ObjectExpression, Property, SpreadElement, RestElement, UnaryExpression, UpdateExpression, BinaryExpression, LogicalExpression, AssignmentExpression, ConditionalExpression, CallExpression, NewExpression, MemberExpression, ChainExpression, SequenceExpression, YieldExpression, AwaitExpression, ImportExpression, MetaProperty, TemplateLiteral, TaggedTemplateExpression, TemplateElement, ObjectPattern, ArrayPattern, AssignmentPattern, Identifier, PrivateIdentifier, Literal, ImportDeclaration, ImportSpecifier, ImportDefaultSpecifier, ImportNamespaceSpecifier, ImportAttribute, ExportNamedDeclaration, ExportSpecifier, ExportDefaultDeclaration, ExportAllDeclaration}
-use Rattle.tree_core.specs.declared.table.Class.{Class as FieldClass}
-use Rattle.tree_core.specs.declared.table.Class.TheVariants.{Cooked, Flags, Pattern, Raw, TextOr}
-use Rattle.tree_core.specs.declared.table.Words.{Words}
-use Rattle.tree_core.specs.declared.table.Words.TheVariants.{SourceTypes, VariableKinds, MethodKinds, PropertyKinds, UnaryOperators, UpdateOperators, BinaryOperators, LogicalOperators, AssignmentOperators}
+use Rattle.tree_nodes.proofs.Cases.{both, not_true}
+use Rattle.tree_nodes.specs.declared.kind.Kind.{Kind}
+use Rattle.tree_nodes.specs.declared.kind.Kind.TheVariants.{Program, Hashbang, ExpressionStatement, BlockStatement, EmptyStatement, DebuggerStatement, ThisExpression, Super, ReturnStatement, ThrowStatement, LabeledStatement, BreakStatement, ContinueStatement, IfStatement, SwitchStatement, SwitchCase, TryStatement, CatchClause, WhileStatement, DoWhileStatement, ForStatement, ForInStatement, ForOfStatement, WithStatement, VariableDeclaration, VariableDeclarator, FunctionDeclaration, FunctionExpression, ArrowFunctionExpression, ClassDeclaration, ClassExpression, ClassBody, MethodDefinition, PropertyDefinition, StaticBlock, ArrayExpression, ObjectExpression, Property, SpreadElement, RestElement, UnaryExpression, UpdateExpression, BinaryExpression, LogicalExpression, AssignmentExpression, ConditionalExpression, CallExpression, NewExpression, MemberExpression, ChainExpression, SequenceExpression, YieldExpression, AwaitExpression, ImportExpression, MetaProperty, TemplateLiteral, TaggedTemplateExpression, TemplateElement, ObjectPattern, ArrayPattern, AssignmentPattern, Identifier, PrivateIdentifier, Literal, ImportDeclaration, ImportSpecifier, ImportDefaultSpecifier, ImportNamespaceSpecifier, ImportAttribute, ExportNamedDeclaration, ExportSpecifier, ExportDefaultDeclaration, ExportAllDeclaration}
+use Rattle.tree_nodes.specs.declared.table.Class.{Class as FieldClass}
+use Rattle.tree_nodes.specs.declared.table.Class.TheVariants.{Cooked, Flags, Pattern, Raw, TextOr}
+use Rattle.tree_nodes.specs.declared.table.Words.{Words}
+use Rattle.tree_nodes.specs.declared.table.Words.TheVariants.{SourceTypes, VariableKinds, MethodKinds, PropertyKinds, UnaryOperators, UpdateOperators, BinaryOperators, LogicalOperators, AssignmentOperators}
 
 -- a class that may be left out in printing
 abbrev pub is_omittable : FieldClass → Bool
@@ -173,156 +173,6 @@ row_sound k =
       followed = e.0;
       ordered = e.1;
     }
-
-pub row_kind : (k : Kind) → (row k).kind ≡ k
-row_kind Program = refl
-row_kind Hashbang = refl
-row_kind ExpressionStatement = refl
-row_kind BlockStatement = refl
-row_kind EmptyStatement = refl
-row_kind DebuggerStatement = refl
-row_kind ThisExpression = refl
-row_kind Super = refl
-row_kind ReturnStatement = refl
-row_kind ThrowStatement = refl
-row_kind LabeledStatement = refl
-row_kind BreakStatement = refl
-row_kind ContinueStatement = refl
-row_kind IfStatement = refl
-row_kind SwitchStatement = refl
-row_kind SwitchCase = refl
-row_kind TryStatement = refl
-row_kind CatchClause = refl
-row_kind WhileStatement = refl
-row_kind DoWhileStatement = refl
-row_kind ForStatement = refl
-row_kind ForInStatement = refl
-row_kind ForOfStatement = refl
-row_kind WithStatement = refl
-row_kind VariableDeclaration = refl
-row_kind VariableDeclarator = refl
-row_kind FunctionDeclaration = refl
-row_kind FunctionExpression = refl
-row_kind ArrowFunctionExpression = refl
-row_kind ClassDeclaration = refl
-row_kind ClassExpression = refl
-row_kind ClassBody = refl
-row_kind MethodDefinition = refl
-row_kind PropertyDefinition = refl
-row_kind StaticBlock = refl
-row_kind ArrayExpression = refl
-row_kind ObjectExpression = refl
-row_kind Property = refl
-row_kind SpreadElement = refl
-row_kind RestElement = refl
-row_kind UnaryExpression = refl
-row_kind UpdateExpression = refl
-row_kind BinaryExpression = refl
-row_kind LogicalExpression = refl
-row_kind AssignmentExpression = refl
-row_kind ConditionalExpression = refl
-row_kind CallExpression = refl
-row_kind NewExpression = refl
-row_kind MemberExpression = refl
-row_kind ChainExpression = refl
-row_kind SequenceExpression = refl
-row_kind YieldExpression = refl
-row_kind AwaitExpression = refl
-row_kind ImportExpression = refl
-row_kind MetaProperty = refl
-row_kind TemplateLiteral = refl
-row_kind TaggedTemplateExpression = refl
-row_kind TemplateElement = refl
-row_kind ObjectPattern = refl
-row_kind ArrayPattern = refl
-row_kind AssignmentPattern = refl
-row_kind Identifier = refl
-row_kind PrivateIdentifier = refl
-row_kind Literal = refl
-row_kind ImportDeclaration = refl
-row_kind ImportSpecifier = refl
-row_kind ImportDefaultSpecifier = refl
-row_kind ImportNamespaceSpecifier = refl
-row_kind ImportAttribute = refl
-row_kind ExportNamedDeclaration = refl
-row_kind ExportSpecifier = refl
-row_kind ExportDefaultDeclaration = refl
-row_kind ExportAllDeclaration = refl
-
-pub row_named-name : (k : Kind) → row_named (row k).name ≡ Some (row k)
-row_named-name Program = refl
-row_named-name Hashbang = refl
-row_named-name ExpressionStatement = refl
-row_named-name BlockStatement = refl
-row_named-name EmptyStatement = refl
-row_named-name DebuggerStatement = refl
-row_named-name ThisExpression = refl
-row_named-name Super = refl
-row_named-name ReturnStatement = refl
-row_named-name ThrowStatement = refl
-row_named-name LabeledStatement = refl
-row_named-name BreakStatement = refl
-row_named-name ContinueStatement = refl
-row_named-name IfStatement = refl
-row_named-name SwitchStatement = refl
-row_named-name SwitchCase = refl
-row_named-name TryStatement = refl
-row_named-name CatchClause = refl
-row_named-name WhileStatement = refl
-row_named-name DoWhileStatement = refl
-row_named-name ForStatement = refl
-row_named-name ForInStatement = refl
-row_named-name ForOfStatement = refl
-row_named-name WithStatement = refl
-row_named-name VariableDeclaration = refl
-row_named-name VariableDeclarator = refl
-row_named-name FunctionDeclaration = refl
-row_named-name FunctionExpression = refl
-row_named-name ArrowFunctionExpression = refl
-row_named-name ClassDeclaration = refl
-row_named-name ClassExpression = refl
-row_named-name ClassBody = refl
-row_named-name MethodDefinition = refl
-row_named-name PropertyDefinition = refl
-row_named-name StaticBlock = refl
-row_named-name ArrayExpression = refl
-row_named-name ObjectExpression = refl
-row_named-name Property = refl
-row_named-name SpreadElement = refl
-row_named-name RestElement = refl
-row_named-name UnaryExpression = refl
-row_named-name UpdateExpression = refl
-row_named-name BinaryExpression = refl
-row_named-name LogicalExpression = refl
-row_named-name AssignmentExpression = refl
-row_named-name ConditionalExpression = refl
-row_named-name CallExpression = refl
-row_named-name NewExpression = refl
-row_named-name MemberExpression = refl
-row_named-name ChainExpression = refl
-row_named-name SequenceExpression = refl
-row_named-name YieldExpression = refl
-row_named-name AwaitExpression = refl
-row_named-name ImportExpression = refl
-row_named-name MetaProperty = refl
-row_named-name TemplateLiteral = refl
-row_named-name TaggedTemplateExpression = refl
-row_named-name TemplateElement = refl
-row_named-name ObjectPattern = refl
-row_named-name ArrayPattern = refl
-row_named-name AssignmentPattern = refl
-row_named-name Identifier = refl
-row_named-name PrivateIdentifier = refl
-row_named-name Literal = refl
-row_named-name ImportDeclaration = refl
-row_named-name ImportSpecifier = refl
-row_named-name ImportDefaultSpecifier = refl
-row_named-name ImportNamespaceSpecifier = refl
-row_named-name ImportAttribute = refl
-row_named-name ExportNamedDeclaration = refl
-row_named-name ExportSpecifier = refl
-row_named-name ExportDefaultDeclaration = refl
-row_named-name ExportAllDeclaration = refl
 
 pub ascii_words : (w : Words) → list_all is_ascii (word_list w) ≡ true
 ascii_words SourceTypes = refl

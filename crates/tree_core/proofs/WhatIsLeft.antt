@@ -7,15 +7,15 @@ use Rattle.serde_json.specs.View.{view, items_view}
 use Rattle.serde_json.specs.declared.value.Value.{Value}
 use Rattle.tree_core.specs.JsonOf.{json_of}
 use Rattle.tree_core.specs.JsonOf as json
-use Rattle.tree_core.specs.Tree.{Tree, Parts, done, atom, child, many, before, empty}
-use Rattle.tree_core.specs.Look.{onto}
+use Rattle.tree_nodes.specs.Tree.{Tree, Parts, done, atom, child, many, before, empty}
+use Rattle.tree_nodes.specs.Look.{onto}
 use Rattle.tree_core.specs.Readable.{is_readable, are_readable, field_from, fields_in, item_from}
 use Rattle.tree_core.specs.Reading.{absent, find_member, outer_key, part_in, items_from}
-use Rattle.tree_core.specs.Rows.{column_of}
-use Rattle.tree_core.specs.Table.{Column}
-use Rattle.tree_core.specs.Views.{part_of, parts_of, item_of, items_of}
-use Rattle.tree_core.specs.declared.node.Field.{Field}
-use Rattle.tree_core.specs.declared.table.Column.{Column as RustColumn}
+use Rattle.tree_nodes.specs.Rows.{column_of}
+use Rattle.tree_nodes.specs.Table.{Column}
+use Rattle.tree_nodes.specs.Views.{part_of, parts_of, item_of, items_of}
+use Rattle.tree_nodes.specs.declared.node.Field.{Field}
+use Rattle.tree_nodes.specs.declared.table.Column.{Column as RustColumn}
 
 -- ---- the field of a column
 

@@ -5,7 +5,7 @@ use Rattle.json_text.specs.Grammar.{Reads}
 use Rattle.json_text.specs.Layout.{Layout}
 use Rattle.json_text.specs.Text.{text_of}
 use Rattle.tree_core.specs.Reading.{tree_of}
-use Rattle.tree_core.specs.Tree.{Tree}
+use Rattle.tree_nodes.specs.Tree.{Tree}
 use Rattle.tree_core.specs.Values.{value_of}
 
 -- a tree that some value is, is read from its own value

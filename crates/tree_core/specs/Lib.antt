@@ -1,15 +1,3 @@
-pub mod Kinds
-pub mod Tree
-pub mod Look
-pub mod TreeCode
-pub mod Views
-pub mod TreeFalls
-pub mod Table
-pub mod Rows
-pub mod Along
-pub mod Literals
-pub mod Roles
-pub mod Standing
 pub mod Supported
 pub mod Reading
 pub mod JsonOf

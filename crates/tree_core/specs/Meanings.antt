@@ -4,12 +4,12 @@ use Rattle.json_text.specs.Json.{null, string, whole as number}
 use Rattle.json_text.specs.Units.{units_of}
 use Rattle.oxc_estree.specs.Open.{Field, OpenList, OpenStruct, list_of, object_of}
 use Rattle.oxc_estree.specs.Out.{Meaning, Out, plain}
-use Rattle.tree_core.specs.Table.{Column, row}
-use Rattle.tree_core.specs.Tree.{Atom, Parts, Tree, atom, child, done, is_empty, many}
+use Rattle.tree_nodes.specs.Table.{Column, row}
+use Rattle.tree_nodes.specs.Tree.{Atom, Parts, Tree, atom, child, done, is_empty, many}
 use Rattle.tree_core.specs.Values.{atom_value, is_marked, is_null_atom}
-use Rattle.tree_core.specs.declared.kind.Kind.{Kind}
-use Rattle.tree_core.specs.declared.table.Class.{Class as FieldClass}
-use Rattle.tree_core.specs.declared.table.Class.TheVariants.{LiteralValue, Pattern, Raw}
+use Rattle.tree_nodes.specs.declared.kind.Kind.{Kind}
+use Rattle.tree_nodes.specs.declared.table.Class.{Class as FieldClass}
+use Rattle.tree_nodes.specs.declared.table.Class.TheVariants.{LiteralValue, Pattern, Raw}
 
 abbrev pub field : List ℕ → Meaning → Field
 field k m = record { name = k; meaning = m }

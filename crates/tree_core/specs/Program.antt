@@ -3,7 +3,7 @@ use Rattle.std.specs.Prelude.{◌≡◌, ℕ, zero, suc, Some}
 use Rattle.tree_core.specs.declared.program.SourceType.{SourceType}
 use Rattle.tree_core.specs.declared.program.SourceType.TheVariants.{Script, Module, CommonJs}
 use Rattle.tree_core.specs.Reading.{tree_of}
-use Rattle.tree_core.specs.Tree.{Tree, part, word_of}
+use Rattle.tree_nodes.specs.Tree.{Tree, part, word_of}
 use Rattle.tree_core.specs.Values.{value_of}
 
 -- a tree that its own value is, and so one that some value is

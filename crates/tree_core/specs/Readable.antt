@@ -1,12 +1,12 @@
 -- The columns that the reader takes: those of the rows of supported kinds.
 use Rattle.std.specs.Prelude.{ℕ, Bool, true, false, ◌&&◌, List, Option, option_map, nat_lt}
 use Rattle.std.specs.List.{list_all}
-use Rattle.tree_core.specs.declared.table.Class.{Class as FieldClass}
-use Rattle.tree_core.specs.declared.table.Class.TheVariants.{Flag, Word, Text, TextOr, One, Maybe, Many, ManyOr, Holes}
+use Rattle.tree_nodes.specs.declared.table.Class.{Class as FieldClass}
+use Rattle.tree_nodes.specs.declared.table.Class.TheVariants.{Flag, Word, Text, TextOr, One, Maybe, Many, ManyOr, Holes}
 use Rattle.json_text.specs.Json.{Json, Members}
 use Rattle.tree_core.specs.Reading.{outer_key, run_of, part_in, part_from, shape_of, list_of, or_hole}
-use Rattle.tree_core.specs.Table.{Column}
-use Rattle.tree_core.specs.Tree.{Parts, alone}
+use Rattle.tree_nodes.specs.Table.{Column}
+use Rattle.tree_nodes.specs.Tree.{Parts, alone}
 
 -- a key that is its own code units
 abbrev pub is_ascii : List ℕ → Bool

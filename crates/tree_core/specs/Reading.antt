@@ -2,18 +2,18 @@
 use Rattle.std.specs.Prelude.{ℕ, pos, ◌^◌, ◌&&◌, ◌||◌, List, [], ◌∷◌, codes, Bool, true, false, not, if◌then◌else◌, nat_lt, Option, Some, None, option_map, option_and_then, bytes_eq, is_some}
 use Rattle.std.specs.List.{position_from}
 use Rattle.json_text.specs.Json.{Json, null, truth, whole as number, other_number, string, list, object, Items, no_items, item, Members, no_members, member}
-use Rattle.tree_core.specs.declared.table.Class.{Class as FieldClass}
-use Rattle.tree_core.specs.declared.table.Class.TheVariants.{Text as TextClass}
+use Rattle.tree_nodes.specs.declared.table.Class.{Class as FieldClass}
+use Rattle.tree_nodes.specs.declared.table.Class.TheVariants.{Text as TextClass}
 use Rattle.json_text.specs.Units.{are_code_units, text_of_units}
 use Rattle.syntax_lex.specs.Identifier.{is_identifier_name}
-use Rattle.tree_core.specs.Look.{onto}
-use Rattle.tree_core.specs.Standing.{is_placed}
+use Rattle.tree_nodes.specs.Look.{onto}
+use Rattle.tree_nodes.specs.Standing.{is_placed}
 use Rattle.tree_core.specs.Supported.{is_supported}
-use Rattle.tree_core.specs.Table.{Column, Row, row_named, word_list}
-use Rattle.tree_core.specs.Tree.{Atom, Parts, Text, Tree, alone, atom, done, empty, flag, many, text, units, whole, word}
-use Rattle.tree_core.specs.declared.kind.Kind.{Kind}
-use Rattle.tree_core.specs.declared.kind.Kind.TheVariants.{Literal}
-use Rattle.tree_core.specs.declared.table.Class.TheVariants.{Cooked, Flag, Flags, Holes, LiteralValue, Many, ManyOr, Maybe, Name, One, Pattern, Raw, TextOr, Word}
+use Rattle.tree_nodes.specs.Table.{Column, Row, row_named, word_list}
+use Rattle.tree_nodes.specs.Tree.{Atom, Parts, Text, Tree, alone, atom, done, empty, flag, many, text, units, whole, word}
+use Rattle.tree_nodes.specs.declared.kind.Kind.{Kind}
+use Rattle.tree_nodes.specs.declared.kind.Kind.TheVariants.{Literal}
+use Rattle.tree_nodes.specs.declared.table.Class.TheVariants.{Cooked, Flag, Flags, Holes, LiteralValue, Many, ManyOr, Maybe, Name, One, Pattern, Raw, TextOr, Word}
 
 -- ---- values
 

@@ -1,15 +1,15 @@
 -- The value of a tree, and the paths to its literals that are marked.
 use Rattle.std.specs.Prelude.{ℕ, suc, pos, Bool, true, false, ◌&&◌, List, [], ◌∷◌, ◌++◌, map, get_or, codes, if◌then◌else◌}
 use Rattle.json_text.specs.Json.{Json, null, truth, whole as number, string, list, object, Items, no_items, item, Members, no_members, member}
-use Rattle.tree_core.specs.declared.table.Class.{Class as FieldClass}
+use Rattle.tree_nodes.specs.declared.table.Class.{Class as FieldClass}
 use Rattle.json_text.specs.Units.{units_of}
 use Rattle.oxc_estree.specs.Out.{Meaning, Part, key, index}
-use Rattle.tree_core.specs.Literals.{is_fixed}
-use Rattle.tree_core.specs.Table.{Column, row, word_list}
-use Rattle.tree_core.specs.Tree.{Atom, Parts, Tree, atom, child, done, empty, flag, many, text, units, whole, word}
-use Rattle.tree_core.specs.declared.kind.Kind.{Kind}
-use Rattle.tree_core.specs.declared.kind.Kind.TheVariants.{Literal}
-use Rattle.tree_core.specs.declared.table.Class.TheVariants.{Pattern, Raw, Word}
+use Rattle.tree_nodes.specs.Literals.{is_fixed}
+use Rattle.tree_nodes.specs.Table.{Column, row, word_list}
+use Rattle.tree_nodes.specs.Tree.{Atom, Parts, Tree, atom, child, done, empty, flag, many, text, units, whole, word}
+use Rattle.tree_nodes.specs.declared.kind.Kind.{Kind}
+use Rattle.tree_nodes.specs.declared.kind.Kind.TheVariants.{Literal}
+use Rattle.tree_nodes.specs.declared.table.Class.TheVariants.{Pattern, Raw, Word}
 
 abbrev pub word_text : FieldClass → ℕ → List ℕ
 word_text (Word w) k = get_or (word_list w) k []

@@ -1,32 +1,21 @@
-//! The tree of a JavaScript program, in ESTree: its nodes, the table of their kinds, the reader and the
-//! printer that go by the table.
+//! The tree of a JavaScript program, in ESTree: the reader and the printer, which go by the node table of
+//! `tree_nodes`. The nodes and the table are named here too.
 #![tactic(auto)]
 
-mod kind;
 mod laws;
 mod limits;
-mod literals;
-mod node;
 mod print;
 mod program;
 mod read;
-mod roles;
-mod rows;
-mod standing;
-mod table;
-mod text;
 
-pub use kind::{KINDS, Kind};
 pub use laws::{printed_text_reads, reading_undoes_printing};
 pub use limits::is_too_large;
-pub use node::{Field, FieldList, Node, NodeList};
 pub use program::{Program, SourceType};
 pub use read::{ReadError, read_tree};
-pub use rows::{row, row_named};
-pub use table::{
-    Class, Column, Declared, Group, Mark, Mode, Opens, Role, Row, Strict, Words, word_list,
+pub use tree_nodes::{
+    Class, Column, Declared, Field, FieldList, Group, KINDS, Kind, Mark, Mode, Node, NodeList,
+    Opens, Role, Row, Strict, TreeText, Words, row, row_named, word_list,
 };
-pub use text::TreeText;
 
 #[cfg(test)]
 mod tests;

@@ -1,24 +1,21 @@
 //! The printer: a tree as ESTree in JSON.
 
-ghost use Rattle.std.specs.Prelude.{◌≡◌, OnErr, OnOk, false, map, option_map, true};
+ghost use Rattle.std.specs.Prelude.{◌≡◌, OnErr, OnOk, false, map, option_copied, option_map, slice_get, true};
 ghost use Rattle.oxc_estree.specs.Open.{add_element, add_field, add_fields, closed, list_of, new_struct};
 ghost use Rattle.oxc_estree.specs.Out.{flags, wrote};
 ghost use Rattle.oxc_estree.specs.Refused.{IsCutShort};
 ghost use Rattle.tree_core.specs.Meanings as spec;
 ghost use Rattle.tree_core.specs.Meanings.{inside};
-ghost use Rattle.tree_core.specs.Rows.{column_of};
-ghost use Rattle.tree_core.specs.Tree as trees;
+ghost use Rattle.tree_nodes.specs.Rows.{column_of};
+ghost use Rattle.tree_nodes.specs.Tree as trees;
 ghost use Rattle.tree_core.specs.Values as values;
-ghost use Rattle.tree_core.specs.Views.{part_of};
+ghost use Rattle.tree_nodes.specs.Views.{part_of};
 
-use crate::kind::Kind;
-use crate::literals::is_fixed;
-use crate::node::{Field, FieldList, Node, NodeList, at};
 use crate::program::Program;
-use crate::rows::row;
-use crate::table::{Class, Column, word_list};
 use oxc_estree::{ESTree, JsonStr, Serializer};
 use std::alloc::AllocError;
+use tree_nodes::literals::is_fixed;
+use tree_nodes::{Class, Column, Field, FieldList, Kind, Node, NodeList, row, word_list};
 
 // The word with this number in a field of the class.
 fn word_text(class: Class, number: u8) -> &'static str
@@ -73,6 +70,13 @@ fn is_left_out(class: Class, field: &Field) -> bool
     ensures { result ≡ spec.is_left_out class (part_of field.now) }
 {
     matches!(class, Class::Pattern) && is_empty(field)
+}
+
+// `columns.get(i)`, with its answer as one equation.
+fn at(columns: &[Column], i: usize) -> Option<&Column>
+    ensures { option_copied result ≡ slice_get columns.now i }
+{
+    columns.get(i)
 }
 
 // Writes a field of a struct that stands open.
@@ -369,3 +373,6 @@ fn write_item<S: Serializer>(item: &Option<Node>, serializer: &mut S) -> Result<
         None => ().serialize(serializer),
     }
 }
+
+#[cfg(test)]
+mod tests;

@@ -2,9 +2,9 @@
 
 ghost use Rattle.std.specs.Prelude.{◌≡◌, ◌↔◌, IsTrue};
 
-use crate::node::Node;
-use crate::roles::word_at;
 use std::marker::Model;
+use tree_nodes::Node;
+use tree_nodes::roles::word_at;
 
 /// What a program's source is: a script, a module, or a CommonJS module, whose code lies in a
 /// function.
@@ -36,8 +36,8 @@ pub struct Program {
 }
 
 impl Model for Program {
-    ghost use Rattle.tree_core.specs.Tree.{Tree};
-    ghost use Rattle.tree_core.specs.TreeCode.{coded_tree};
+    ghost use Rattle.tree_nodes.specs.Tree.{Tree};
+    ghost use Rattle.tree_nodes.specs.TreeCode.{coded_tree};
 
     ghost Value = { Tree };
 

@@ -11,24 +11,22 @@ ghost use Rattle.tree_core.specs.Readable.{is_ascii, is_readable, are_readable, 
 ghost use Rattle.tree_core.specs.ReadError.{Says};
 ghost use Rattle.tree_core.specs.Reading as reading;
 ghost use Rattle.tree_core.specs.Reading.{tree_of};
-ghost use Rattle.tree_core.specs.Rows.{row_of, column_of};
+ghost use Rattle.tree_nodes.specs.Rows.{row_of, column_of};
 ghost use Rattle.tree_core.specs.Supported as spec;
-ghost use Rattle.tree_core.specs.Table.{word_list};
+ghost use Rattle.tree_nodes.specs.Table.{word_list};
 ghost use Rattle.json_text.specs.Json.{object};
-ghost use Rattle.tree_core.specs.Tree.{text, many, done, alone};
-ghost use Rattle.tree_core.specs.Views.{part_of, parts_of, item_of, items_of};
+ghost use Rattle.tree_nodes.specs.Tree.{text, many, done, alone};
+ghost use Rattle.tree_nodes.specs.Views.{part_of, parts_of, item_of, items_of};
 
-use crate::kind::Kind;
 use crate::limits::is_too_large;
-use crate::node::{Field, FieldList, Node, NodeList};
 use crate::program::Program;
-use crate::rows::row_named;
-use crate::standing::is_placed;
-use crate::table::{Class, Column, Row, Words, word_list};
-use crate::text::TreeText;
 use serde_json::{Map, Value};
 use std::alloc::{AllocError, AllocFailed, Global};
 use thiserror::Error;
+use tree_nodes::{
+    Class, Column, Field, FieldList, Kind, Node, NodeList, Row, TreeText, Words, is_placed,
+    row_named, word_list,
+};
 
 /// Why a value was not read.
 #[derive(Debug, Drop, Error)]

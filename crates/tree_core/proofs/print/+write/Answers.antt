@@ -9,18 +9,18 @@ use Rattle.oxc_estree.proofs.Growth.{cut_short_after}
 use Rattle.oxc_estree.proofs.ListUnderWay.{begin_list_refused, is_zero-eq, list_end_refused, list_ended, steps_begin as list_begins}
 use Rattle.oxc_estree.proofs.Refusals.{at_err}
 use Rattle.oxc_estree.proofs.StructUnderWay.{IsStructUnderWay, begin_struct_refused, field_refused, field_written, steps_begin, struct_end_refused, struct_ended}
-use Rattle.tree_core.specs.Look.{part_at, parts_len, parts_size}
+use Rattle.tree_nodes.specs.Look.{part_at, parts_len, parts_size}
 use Rattle.tree_core.specs.Meanings.{field, field_meanings, inside, item_meanings, part_meaning}
-use Rattle.tree_core.specs.Rows.{column_of, row_of}
-use Rattle.tree_core.specs.Tree.{Tree}
+use Rattle.tree_nodes.specs.Rows.{column_of, row_of}
+use Rattle.tree_nodes.specs.Tree.{Tree}
 use Rattle.tree_core.specs.Values.{is_marked}
-use Rattle.tree_core.specs.Views.{part_of}
-use Rattle.tree_core.specs.declared.table.Class.TheVariants.{Flag}
-use Rattle.tree_core.specs.declared.table.Column.{Column}
-use Rattle.tree_core.specs.declared.table.Mark.TheVariants.{Usual}
-use Rattle.tree_core.specs.declared.table.Mode.TheVariants.{Gives}
-use Rattle.tree_core.specs.declared.table.Role.TheVariants.{Plain}
-use Rattle.tree_core.proofs.Lists.{map_of_ref}
+use Rattle.tree_nodes.specs.Views.{part_of}
+use Rattle.tree_nodes.specs.declared.table.Class.TheVariants.{Flag}
+use Rattle.tree_nodes.specs.declared.table.Column.{Column}
+use Rattle.tree_nodes.specs.declared.table.Mark.TheVariants.{Usual}
+use Rattle.tree_nodes.specs.declared.table.Mode.TheVariants.{Gives}
+use Rattle.tree_nodes.specs.declared.table.Role.TheVariants.{Plain}
+use Rattle.tree_nodes.proofs.Lists.{map_of_ref}
 use Rattle.tree_core.proofs.Printed.{end_of_items, fields_begin, item_refused, item_written, next_falls, no_fields_left, no_items_left, node_refused, node_under_way, shared_refused, shared_written, single_refused, single_written, units_of-word}
 use Rattle.tree_core.proofs.print.+write.Goals as goal
 use Rattle.tree_core.proofs.print.+write.Goals.{write_fields-else-loop-i-test, write_fields-then-loop-i-test+in_default, write_nodes-else-loop-i-test, write_nodes-then-loop-i-test+in_default}

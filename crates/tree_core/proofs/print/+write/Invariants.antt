@@ -2,10 +2,10 @@ use Rattle.std.proofs.Common.{◌+◌, ◌-◌, ◌*◌, false, length, map, max
 use Rattle.oxc_estree.specs.Open.{add_fields, closed, list_of}
 use Rattle.oxc_estree.specs.Out.{wrote}
 use Rattle.oxc_estree.proofs.ListUnderWay.{IsListUnderWay}
-use Rattle.tree_core.specs.Look.{item_size, part_size, parts_size, past, tree_size}
+use Rattle.tree_nodes.specs.Look.{item_size, part_size, parts_size, past, tree_size}
 use Rattle.tree_core.specs.Meanings.{field_meanings, inside, inside_list, item_meanings}
-use Rattle.tree_core.specs.Rows.{column_of}
-use Rattle.tree_core.specs.Views.{part_of}
+use Rattle.tree_nodes.specs.Rows.{column_of}
+use Rattle.tree_nodes.specs.Views.{part_of}
 use Rattle.tree_core.proofs.Printed.{FieldsLeft, next_size}
 use Rattle.tree_core.proofs.print.+write.Given as goal
 

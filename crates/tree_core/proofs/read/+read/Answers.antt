@@ -3,7 +3,7 @@ use Rattle.serde_json.specs.Data.{depth, items_depth}
 use Rattle.serde_json.specs.View.{view, items_view, members_view}
 use Rattle.tree_core.specs.JsonOf as json
 use Rattle.tree_core.specs.Reading.{find_member}
-use Rattle.tree_core.specs.Rows.{column_of}
+use Rattle.tree_nodes.specs.Rows.{column_of}
 use Rattle.tree_core.proofs.WhatIsLeft.{part_in-found, part_in-missing, readable_at, item_falls, items_read, items_next, fields_read, fields_next}
 use Rattle.tree_core.proofs.read.+read.Goals as goal
 

@@ -2,10 +2,10 @@ use Rattle.std.proofs.Common.{◌≡◌, ◌+◌, ◌*◌, option_map, map, drop
 use Rattle.serde_json.specs.Data.{depth, items_depth, members_depth}
 use Rattle.serde_json.specs.View.{view, items_view, members_view}
 use Rattle.tree_core.specs.JsonOf as json
-use Rattle.tree_core.specs.Look.{onto}
+use Rattle.tree_nodes.specs.Look.{onto}
 use Rattle.tree_core.specs.Readable.{fields_in}
-use Rattle.tree_core.specs.Rows.{column_of}
-use Rattle.tree_core.specs.Views.{parts_of, items_of}
+use Rattle.tree_nodes.specs.Rows.{column_of}
+use Rattle.tree_nodes.specs.Views.{parts_of, items_of}
 use Rattle.tree_core.proofs.WhatIsLeft.{nodes_of}
 use Rattle.tree_core.proofs.read.+read.Given as goal
 

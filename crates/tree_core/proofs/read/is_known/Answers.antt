@@ -1,6 +1,6 @@
 use Rattle.std.proofs.Common.{◌≡◌, map, sym, ◌∙◌, rules}
 use Rattle.tree_core.specs.Reading.{is_known}
-use Rattle.tree_core.specs.Rows.{column_of}
+use Rattle.tree_nodes.specs.Rows.{column_of}
 use Rattle.tree_core.proofs.Members.{is_known-units_of}
 use Rattle.tree_core.proofs.read.is_known.Goals as goal
 

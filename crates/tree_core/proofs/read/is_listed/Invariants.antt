@@ -1,6 +1,6 @@
 use Rattle.std.proofs.Common.{◌≡◌, map, drop}
 use Rattle.tree_core.specs.Reading.{is_listed}
-use Rattle.tree_core.specs.Rows.{column_of}
+use Rattle.tree_nodes.specs.Rows.{column_of}
 use Rattle.tree_core.proofs.read.is_listed.Given as goal
 
 -- no column that the loop has passed has the key

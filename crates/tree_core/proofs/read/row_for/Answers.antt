@@ -1,5 +1,5 @@
 use Rattle.std.proofs.Common.{sym, ◌∙◌}
-use Rattle.tree_core.specs.Rows.{row_of}
+use Rattle.tree_nodes.specs.Rows.{row_of}
 use Rattle.tree_core.proofs.ReadableRows.{supported_row_readable}
 use Rattle.tree_core.proofs.read.row_for.Goals as goal
 

@@ -1,0 +1,10 @@
+use Rattle.std.proofs.Common.{ap, ◌∙◌}
+use Rattle.tree_nodes.specs.Tree.{is_empty}
+use Rattle.tree_nodes.proofs.Beside.{part_found, part_missing}
+use Rattle.tree_nodes.proofs.roles.empty_at.Goals as goal
+
+pub returns-in-Some : goal.returns-in-Some
+returns-in-Some c = c.empty_in.ensures ∙ ap is_empty (part_found c.args.fields.now c.args.i _ c.in-Some.ensures.part)
+
+pub returns-in-None : goal.returns-in-None
+returns-in-None c = ap is_empty (part_missing c.args.fields.now c.args.i c.in-None.ensures.part)

@@ -1,0 +1,11 @@
+use Rattle.std.proofs.Common.{ap, ◌∙◌}
+use Rattle.tree_nodes.specs.Standing.{is_identifier}
+use Rattle.tree_nodes.proofs.Beside.{part_found, part_missing}
+use Rattle.tree_nodes.proofs.standing.identifier_at.Goals as goal
+
+pub returns-in-Some : goal.returns-in-Some
+returns-in-Some c = c.identifier_in.ensures ∙ ap is_identifier (part_found c.args.fields.now c.args.i _ c.in-Some.ensures.part)
+
+pub returns-in-None : goal.returns-in-None
+unfolding is_identifier
+returns-in-None c = ap is_identifier (part_missing c.args.fields.now c.args.i c.in-None.ensures.part)

@@ -1,0 +1,12 @@
+pub mod Kinds
+pub mod Tree
+pub mod Look
+pub mod TreeCode
+pub mod Views
+pub mod TreeFalls
+pub mod Table
+pub mod Rows
+pub mod Along
+pub mod Literals
+pub mod Roles
+pub mod Standing
