@@ -8,42 +8,70 @@ use Rattle.tree_core.specs.Limits.{is_too_large}
 use Rattle.tree_core.specs.Reading.{tree_of}
 use Rattle.tree_nodes.specs.Tree.{Tree}
 use Rattle.tree_core.specs.Values.{meaning_of}
-use Rattle.mangle_tool.specs.Input.{IsNotJson, Parses}
+use Rattle.mangle_tool.specs.Input.{IsNotJson, Parses, program_in}
+use Rattle.tree_core.specs.declared.read.ReadError.{ReadError}
+use Rattle.tree_core.specs.declared.read.ReadError.TheVariants as refusal
 use Rattle.mangle_tool.specs.declared.estree.MangleError.{MangleError}
 use Rattle.mangle_tool.specs.declared.estree.MangleError.TheVariants.{NotJson, TooLarge, BadTree, BadScope, Memory}
 use Rattle.mangle_tool.specs.declared.status.Status.{Status}
 use Rattle.mangle_tool.specs.declared.status.Status.TheVariants as status
 
--- the input is JSON within the limits, whose value is this tree, and the text is that of the tree: its value
--- in a compact layout beside the paths of its BigInt and RegExp literals
+-- the value is within the limits, and its program is a tree
+pub record IsValid (value : Data) : Type 0 where
+  pub tree : Tree
+  pub within : is_too_large value 0 ≡ false
+  pub is_tree : tree_of (json_of (program_in value)) ≡ Some tree
+
+-- the value is valid, and the text is that of its tree: the value of the tree in a compact layout beside the paths
+-- of its BigInt and RegExp literals
+pub record IsAnswerTo (value : Data) (text : List ℕ) : Type 0 where
+  pub valid : IsValid value
+  pub text_is : text ≡ envelope compact (meaning_of valid.tree)
+
+-- the value is within the limits, but its program is no tree
+pub record IsNoTree (value : Data) : Type 0 where
+  pub within : is_too_large value 0 ≡ false
+  pub no_tree : tree_of (json_of (program_in value)) ≡ None
+
+-- what an error says of a value; no tree that is taken has a scope fault, and memory may run out at any value
+abbrev pub IsCauseFor : MangleError → Data → Type 0
+IsCauseFor NotJson value = ⊥
+IsCauseFor TooLarge value = is_too_large value 0 ≡ true
+IsCauseFor BadTree value = IsNoTree value
+IsCauseFor BadScope value = ⊥
+IsCauseFor Memory value = Unit {0}
+
+-- the input is JSON whose value is valid
+pub record IsValidInput (input : List ℕ) : Type 0 where
+  pub value : Data
+  pub parses : Parses input value
+  pub valid : IsValid value
+
+-- the input is JSON, and the text is the answer to its value
 pub record IsAnswer (input text : List ℕ) : Type 0 where
   pub value : Data
-  pub tree : Tree
   pub parses : Parses input value
-  pub within : is_too_large value 0 ≡ false
-  pub is_tree : tree_of (json_of value) ≡ Some tree
-  pub text_is : text ≡ envelope compact (meaning_of tree)
+  pub answer : IsAnswerTo value text
 
--- the input is JSON that passes a limit
-pub record IsTooLarge (input : List ℕ) : Type 0 where
+-- the input is JSON, and the error's cause lies in its value
+pub record IsOfValue (e : MangleError) (input : List ℕ) : Type 0 where
   pub value : Data
   pub parses : Parses input value
-  pub beyond : is_too_large value 0 ≡ true
+  pub cause : IsCauseFor e value
 
--- the input is JSON within the limits, but no tree
-pub record IsNoTree (input : List ℕ) : Type 0 where
-  pub value : Data
-  pub parses : Parses input value
-  pub within : is_too_large value 0 ≡ false
-  pub no_tree : tree_of (json_of value) ≡ None
-
--- what an error says of the input; no tree that is taken has a scope fault, and memory may run out at any input
+-- what an error says of the input
 abbrev pub IsCauseOf : MangleError → List ℕ → Type 0
 IsCauseOf NotJson input = IsNotJson input
-IsCauseOf TooLarge input = IsTooLarge input
-IsCauseOf BadTree input = IsNoTree input
-IsCauseOf BadScope input = ⊥
+IsCauseOf TooLarge input = IsOfValue TooLarge input
+IsCauseOf BadTree input = IsOfValue BadTree input
+IsCauseOf BadScope input = IsOfValue BadScope input
 IsCauseOf Memory input = Unit {0}
+
+-- the error of a value that can't be read
+abbrev pub read_refusal : ReadError → MangleError
+read_refusal refusal.TooLarge = TooLarge
+read_refusal refusal.BadTree = BadTree
+read_refusal refusal.Memory = Memory
 
 -- the status of a run that ends by the error
 abbrev pub refused_status : MangleError → Status

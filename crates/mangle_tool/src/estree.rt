@@ -1,14 +1,20 @@
 //! The whole job on bytes: ESTree in JSON in, its answer out.
 
-ghost use Rattle.std.specs.Prelude.{◌≡◌, IfErr, IfOk, string_bytes};
+ghost use Rattle.std.specs.Prelude.{◌≡◌, ◌↔◌, Err, IfErr, IfOk, IsTrue, None, Some, option_map, string_bytes};
+ghost use Rattle.serde_json.specs.View.{view};
+ghost use Rattle.tree_core.specs.JsonOf.{json_of};
+ghost use Rattle.tree_core.specs.Limits.{is_too_large};
+ghost use Rattle.tree_core.specs.Reading.{tree_of};
 ghost use Rattle.mangle_tool.specs.declared.estree.MangleError.{MangleError};
-ghost use Rattle.mangle_tool.specs.Answer.{IsAnswer, IsCauseOf};
+ghost use Rattle.mangle_tool.specs.Answer.{IsAnswer, IsAnswerTo, IsCauseFor, IsCauseOf, read_refusal};
+ghost use Rattle.mangle_tool.specs.Input as spec;
+ghost use Rattle.mangle_tool.specs.Input.{program_in};
 
 use oxc_estree::{CompactFormatter, ConfigFixes, ESTreeSerializer};
 use serde_json::Value;
 use std::alloc::{AllocError, Global};
 use std::fmt;
-use tree_core::{ReadError, read_tree};
+use tree_core::{Program, ReadError, is_too_large, read_tree};
 
 /// Why an input has no answer, in the order in which it is tested.
 #[derive(Clone, Copy, Debug, PartialEq, Eq)]
@@ -50,11 +56,22 @@ impl From<AllocError> for MangleError {
     }
 }
 
-/// The answer to an ESTree in JSON: `{"node":`, a line feed, the tree in the layout of this project, a line
-/// feed, `,"fixes":[`, the paths of its BigInt and RegExp literals, `]}`.
+impl From<ReadError> for MangleError {
+    ghost from_gives = { λ error e. e ≡ read_refusal error };
+
+    fn from(error: ReadError) -> Self {
+        match error {
+            ReadError::TooLarge => MangleError::TooLarge,
+            ReadError::BadTree => MangleError::BadTree,
+            ReadError::Memory => MangleError::Memory,
+        }
+    }
+}
+
+/// The answer to an ESTree in JSON, as `mangle_value` gives it.
 ///
-/// `NotJson` comes exactly where `serde_json` reads no value from the bytes, `TooLarge` exactly where that
-/// value passes the limits, `BadTree` exactly where it is no tree; `Memory` may come at any input.
+/// `NotJson` comes exactly where `serde_json` reads no value from the bytes, the other errors as they
+/// come for that value.
 pub fn mangle_estree(alloc: Global, input: &[u8]) -> Result<String, MangleError>
     ensures answer { IfOk result (λ text. IsAnswer input.now (string_bytes text)) }
     ensures cause { IfErr result (λ e. IsCauseOf e input.now) }
@@ -64,12 +81,49 @@ pub fn mangle_estree(alloc: Global, input: &[u8]) -> Result<String, MangleError>
         Err(error) if error.is_memory() => return Err(MangleError::Memory),
         Err(_) => return Err(MangleError::NotJson),
     };
-    let program = match read_tree(alloc, &value, 0) {
-        Ok(program) => program,
-        Err(ReadError::TooLarge) => return Err(MangleError::TooLarge),
-        Err(ReadError::BadTree) => return Err(MangleError::BadTree),
-        Err(ReadError::Memory) => return Err(MangleError::Memory),
-    };
+    mangle_value(alloc, &value)
+}
+
+/// The answer to a value: `{"node":`, a line feed, the tree in the layout of this project, a line feed,
+/// `,"fixes":[`, the paths of its BigInt and RegExp literals, `]}`.
+///
+/// The value is a Program of ESTree, or an object of exactly `node`, a Program, and `fixes`, a list
+/// that isn't looked at, as an answer has them.
+///
+/// `TooLarge` comes exactly where the whole value passes the limits, `BadTree` exactly where it is within
+/// them and its program is no tree; `NotJson` never; `Memory` may come at any value.
+pub fn mangle_value(alloc: Global, value: &Value) -> Result<String, MangleError>
+    ensures answer { IfOk result (λ text. IsAnswerTo (view value.now) (string_bytes text)) }
+    ensures cause { IfErr result (λ e. IsCauseFor e (view value.now)) }
+{
+    let program = read_program(alloc, value)?;
     let serializer = ESTreeSerializer::<ConfigFixes, CompactFormatter>::new(alloc, false, false)?;
     Ok(serializer.serialize_with_fixes(&program)?)
+}
+
+// The tree of the program that a value is or wraps. The limits are those of the whole value.
+fn read_program(alloc: Global, value: &Value) -> Result<Program, ReadError>
+    ensures ok { IfOk result
+        (λ p. tree_of (json_of (program_in (view value.now))) ≡ Some p) }
+    ensures too_large { (result ≡ Err ReadError.TooLarge)
+        ↔ IsTrue (is_too_large (view value.now) 0) }
+    ensures bad_tree { result ≡ Err ReadError.BadTree
+        → tree_of (json_of (program_in (view value.now))) ≡ None }
+{
+    match wrapped_program(value) {
+        Some(_) if is_too_large(value, 0) => Err(ReadError::TooLarge),
+        Some(node) => read_tree(alloc, node, 0),
+        None => read_tree(alloc, value, 0),
+    }
+}
+
+// The `node` in an object of exactly `node` and `fixes`, a list.
+fn wrapped_program(value: &Value) -> Option<&Value>
+    ensures { option_map (λ node. view node.now) result ≡ spec.wrapped_program (view value.now) }
+{
+    let members = value.as_object()?;
+    if members.len() != 2 || !value.get("fixes")?.is_array() {
+        return None;
+    }
+    value.get("node")
 }

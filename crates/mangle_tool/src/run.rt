@@ -1,9 +1,9 @@
 //! The whole program, over any source and sink.
 
-ghost use Rattle.std.specs.Prelude.{◌≡◌, ◌≢◌, ◌+◌, ◌<◌, ◌⊎◌, length, IfSome, IsTrue};
+ghost use Rattle.std.specs.Prelude.{◌≡◌, ◌≢◌, ◌+◌, ◌<◌, ◌≤◌, ◌↔◌, ◌⊎◌, length, IfSome, IsTrue};
 ghost use Rattle.mangle_tool.specs.declared.estree.MangleError.{MangleError};
 ghost use Rattle.mangle_tool.specs.declared.run.TheConstants.{INPUT_LIMIT};
-ghost use Rattle.mangle_tool.specs.Answer.{refused_status};
+ghost use Rattle.mangle_tool.specs.Answer.{IsValidInput, refused_status};
 ghost use Rattle.mangle_tool.specs.Faults.{Rose};
 ghost use Rattle.mangle_tool.specs.Run.{HasAnswered, HasBegun, HasRefused};
 
@@ -57,13 +57,19 @@ pub fn run<S: Source, K: Sink>(alloc: Global, source: &mut S, sink: &mut K) -> S
         → (result ≡ Status.ReadFault) ⊎ (result ≡ Status.Memory) }
     ensures too_long { result ≡ Status.InputTooLong
         → S.given source.new ≡ S.given source.old + (INPUT_LIMIT + 1) }
-    ensures too_long_told { result ≢ Status.Memory
+    ensures too_long_exactly { result ≢ Status.Memory
         → ¬ Rose (S.faults source.old) (S.faults source.new)
         → IfSome (S.left source.old)
-        (λ left. INPUT_LIMIT < length left → result ≡ Status.InputTooLong) }
+        (λ left. (result ≡ Status.InputTooLong) ↔ (INPUT_LIMIT < length left)) }
     ensures write_fault { result ≡ Status.WriteFault → Rose (K.faults sink.old) (K.faults sink.new) }
     ensures write_fault_told { K.faults sink.old < K.faults sink.new → result ≡ Status.WriteFault }
     ensures no_argument { result ≢ Status.BadArgument }
+
+    // Where nothing fails, a valid input is answered.
+    ensures complete { ¬ Rose (S.faults source.old) (S.faults source.new)
+        → ¬ Rose (K.faults sink.old) (K.faults sink.new)
+        → IfSome (S.left source.old) (λ left. length left ≤ INPUT_LIMIT → IsValidInput left
+        → (result ≡ Status.Done) ⊎ (result ≡ Status.Memory)) }
 {
     let input = match read_all(alloc, source, INPUT_LIMIT) {
         Ok(input) => input,

@@ -9,6 +9,7 @@ mod program;
 mod read;
 
 pub use laws::{printed_text_reads, reading_undoes_printing};
+pub use limits::is_too_large;
 pub use program::{Program, SourceType};
 pub use read::{ReadError, read_tree};
 pub use tree_nodes::{
