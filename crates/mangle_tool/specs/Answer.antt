@@ -25,8 +25,10 @@ pub record IsValid (value : Data) : Type 0 where
 -- the value is valid, and the text is that of its tree: the value of the tree in a compact layout beside the paths
 -- of its BigInt and RegExp literals
 pub record IsAnswerTo (value : Data) (text : List ℕ) : Type 0 where
-  pub valid : IsValid value
-  pub text_is : text ≡ envelope compact (meaning_of valid.tree)
+  pub tree : Tree
+  pub within : is_too_large value 0 ≡ false
+  pub is_tree : tree_of (json_of (program_in value)) ≡ Some tree
+  pub text_is : text ≡ envelope compact (meaning_of tree)
 
 -- the value is within the limits, but its program is no tree
 pub record IsNoTree (value : Data) : Type 0 where

@@ -1,7 +1,8 @@
 //! The whole job on bytes: ESTree in JSON in, its answer out.
 
-ghost use Rattle.std.specs.Prelude.{◌≡◌, ◌↔◌, Err, IfErr, IfOk, IsTrue, None, Some, option_map, string_bytes};
-ghost use Rattle.serde_json.specs.View.{view};
+ghost use Rattle.std.specs.Prelude.{◌≡◌, ◌↔◌, Err, IfErr, IfOk, IsTrue, None, Some, is_some, option_and_then, option_map, string_bytes};
+ghost use Rattle.serde_json.specs.Find.{as_array};
+ghost use Rattle.serde_json.specs.View.{view, members_view};
 ghost use Rattle.tree_core.specs.JsonOf.{json_of};
 ghost use Rattle.tree_core.specs.Limits.{is_too_large};
 ghost use Rattle.tree_core.specs.Reading.{tree_of};
@@ -11,7 +12,7 @@ ghost use Rattle.mangle_tool.specs.Input as spec;
 ghost use Rattle.mangle_tool.specs.Input.{program_in};
 
 use oxc_estree::{CompactFormatter, ConfigFixes, ESTreeSerializer};
-use serde_json::Value;
+use serde_json::{Map, Value};
 use std::alloc::{AllocError, Global};
 use std::fmt;
 use tree_core::{Program, ReadError, is_too_large, read_tree};
@@ -121,9 +122,29 @@ fn read_program(alloc: Global, value: &Value) -> Result<Program, ReadError>
 fn wrapped_program(value: &Value) -> Option<&Value>
     ensures { option_map (λ node. view node.now) result ≡ spec.wrapped_program (view value.now) }
 {
-    let members = value.as_object()?;
-    if members.len() != 2 || !value.get("fixes")?.is_array() {
-        return None;
+    wrapped_in(value.as_object()?)
+}
+
+fn wrapped_in(members: &Map<String, Value>) -> Option<&Value>
+    ensures { option_map (λ node. view node.now) result
+        ≡ spec.wrapped_in (members_view members.now.entries) }
+{
+    if is_envelope(members) {
+        members.get("node")
+    } else {
+        None
     }
-    value.get("node")
+}
+
+fn is_envelope(members: &Map<String, Value>) -> bool
+    ensures { result ≡ spec.is_envelope (members_view members.now.entries) }
+{
+    members.len() == 2 && is_list(members.get("fixes"))
+}
+
+fn is_list(value: Option<&Value>) -> bool
+    ensures { result ≡ is_some
+        (option_and_then as_array (option_map (λ v. view v.now) value.entry)) }
+{
+    matches!(value, Some(Value::Array(_)))
 }
