@@ -1,0 +1,119 @@
+-- Names that functions and classes take from their bindings. Made by tools/worked_rows.py.
+use Rattle.std.specs.Prelude.{[], ◌∷◌, codes}
+use Rattle.tree_nodes.specs.Tree.{Parts}
+use Rattle.worked_rows.specs.Makers.{array, array_pattern, assignment, class, class_expression, declaration, declarator, default_at, function, function_expression, ident, module_of, null, number, rest, script, statement}
+
+-- module: function foo() {}
+abbrev pub named_function : Parts
+named_function = module_of (function (ident (codes "foo")) [] [] ∷ [])
+
+-- module: function e() {}
+abbrev pub named_function_renamed : Parts
+named_function_renamed = module_of (function (ident (codes "e")) [] [] ∷ [])
+
+-- module: var foo; foo ||= function () {}
+abbrev pub assigned_function : Parts
+assigned_function =
+    module_of
+    (declaration 0 (declarator (ident (codes "foo")) null ∷ [])
+    ∷ statement (assignment 13 (ident (codes "foo")) (function_expression null [] []))
+    ∷ [])
+
+-- module: var e; e ||= function () {}
+abbrev pub assigned_function_renamed : Parts
+assigned_function_renamed =
+    module_of
+    (declaration 0 (declarator (ident (codes "e")) null ∷ [])
+    ∷ statement (assignment 13 (ident (codes "e")) (function_expression null [] []))
+    ∷ [])
+
+-- module: var foo = function bar() {}
+abbrev pub named_expression : Parts
+named_expression =
+    module_of
+    (declaration 0 (declarator (ident (codes "foo")) (function_expression (ident (codes "bar")) [] []) ∷ [])
+    ∷ [])
+
+-- module: var e = function bar() {}
+abbrev pub named_expression_mangled : Parts
+named_expression_mangled =
+    module_of
+    (declaration 0 (declarator (ident (codes "e")) (function_expression (ident (codes "bar")) [] []) ∷ [])
+    ∷ [])
+
+-- module: var [Foo = class {}] = []
+abbrev pub class_by_default : Parts
+class_by_default =
+    module_of
+    (declaration 0 (declarator (array_pattern (default_at (ident (codes "Foo")) (class_expression null []) ∷ [])) (array []) ∷ [])
+    ∷ [])
+
+-- module: var [e = class {}] = []
+abbrev pub class_by_default_renamed : Parts
+class_by_default_renamed =
+    module_of
+    (declaration 0 (declarator (array_pattern (default_at (ident (codes "e")) (class_expression null []) ∷ [])) (array []) ∷ [])
+    ∷ [])
+
+-- module: var [...foo] = [function () {}]
+abbrev pub function_in_rest : Parts
+function_in_rest =
+    module_of
+    (declaration 0 (declarator (array_pattern (rest (ident (codes "foo")) ∷ [])) (array (function_expression null [] [] ∷ [])) ∷ [])
+    ∷ [])
+
+-- module: var [...e] = [function () {}]
+abbrev pub function_in_rest_mangled : Parts
+function_in_rest_mangled =
+    module_of
+    (declaration 0 (declarator (array_pattern (rest (ident (codes "e")) ∷ [])) (array (function_expression null [] [] ∷ [])) ∷ [])
+    ∷ [])
+
+-- module: var [a = 1, a = function () {}] = []
+abbrev pub second_default : Parts
+second_default =
+    module_of
+    (declaration 0 (declarator (array_pattern (default_at (ident (codes "a")) (number 1 (codes "1")) ∷ default_at (ident (codes "a")) (function_expression null [] []) ∷ [])) (array []) ∷ [])
+    ∷ [])
+
+-- module: var [e = 1, e = function () {}] = []
+abbrev pub second_default_mangled : Parts
+second_default_mangled =
+    module_of
+    (declaration 0 (declarator (array_pattern (default_at (ident (codes "e")) (number 1 (codes "1")) ∷ default_at (ident (codes "e")) (function_expression null [] []) ∷ [])) (array []) ∷ [])
+    ∷ [])
+
+-- module: var [a = function () {}, a = 1] = []
+abbrev pub first_default : Parts
+first_default =
+    module_of
+    (declaration 0 (declarator (array_pattern (default_at (ident (codes "a")) (function_expression null [] []) ∷ default_at (ident (codes "a")) (number 1 (codes "1")) ∷ [])) (array []) ∷ [])
+    ∷ [])
+
+-- module: var [e = function () {}, e = 1] = []
+abbrev pub first_default_renamed : Parts
+first_default_renamed =
+    module_of
+    (declaration 0 (declarator (array_pattern (default_at (ident (codes "e")) (function_expression null [] []) ∷ default_at (ident (codes "e")) (number 1 (codes "1")) ∷ [])) (array []) ∷ [])
+    ∷ [])
+
+-- script: (function f() { class f {} f })
+abbrev pub class_in_function : Parts
+class_in_function =
+    script
+    (statement (function_expression (ident (codes "f")) [] (class (ident (codes "f")) [] ∷ statement (ident (codes "f")) ∷ []))
+    ∷ [])
+
+-- script: (function e() { class f {} f })
+abbrev pub class_in_function_renamed : Parts
+class_in_function_renamed =
+    script
+    (statement (function_expression (ident (codes "e")) [] (class (ident (codes "f")) [] ∷ statement (ident (codes "f")) ∷ []))
+    ∷ [])
+
+-- script: (function e() { class e {} e })
+abbrev pub class_in_function_mangled : Parts
+class_in_function_mangled =
+    script
+    (statement (function_expression (ident (codes "e")) [] (class (ident (codes "e")) [] ∷ statement (ident (codes "e")) ∷ []))
+    ∷ [])

@@ -1,0 +1,28 @@
+//! Faults in scopes, each alone, and trees beside them that have none.
+
+ghost use Rattle.std.specs.Prelude.{IsTrue};
+ghost use Rattle.worked_rows.specs.Asked.{defaults};
+ghost use Rattle.worked_rows.specs.Faulty as row;
+ghost use Rattle.worked_rows.specs.Judged.{Crossing, IsAnswer, IsFaulty, Reach, Redeclaration, SloppyFunction, Undeclared, is_valid};
+
+/// Each fault alone.
+pub fn scope_faults()
+    ensures redeclared { IsFaulty Redeclaration row.redeclared }
+    ensures crossed { IsFaulty Crossing row.crossed }
+    ensures catch_crossed { IsFaulty Crossing row.catch_crossed }
+    ensures using_crossed { IsFaulty Crossing row.using_crossed }
+    ensures body_reached { IsFaulty Reach row.body_reached }
+    ensures undeclared_private { IsFaulty Undeclared row.undeclared_private }
+    ensures sloppy_function { IsFaulty SloppyFunction row.sloppy_function }
+{}
+
+/// A function in a block is sound in a module, in a script that asks for strict code, and where it is
+/// async; a parameter may be declared again in the body and named by a later default; `var`s and
+/// functions of one scope may have one name.
+pub fn no_faults()
+    ensures module { IsAnswer defaults row.strict_function row.strict_function_mangled }
+    ensures directed { IsTrue (is_valid row.directed_function) }
+    ensures async_function { IsTrue (is_valid row.async_function_in_block) }
+    ensures parameter { IsTrue (is_valid row.parameter_reached) }
+    ensures joined { IsTrue (is_valid row.joined) }
+{}
