@@ -1,7 +1,7 @@
 -- Trees with faults in their scopes, and trees beside them that have none. Made by tools/worked_rows.py.
 use Rattle.std.specs.Prelude.{[], ◌∷◌, codes}
 use Rattle.tree_nodes.specs.Tree.{Parts}
-use Rattle.worked_rows.specs.Makers.{async_function, block, declaration, declarator, default_at, directive, function, ident, member, module_of, null, private, script, statement, this, try_catch}
+use Rattle.worked_rows.specs.Makers.{async_function, block, declaration, declarator, default_at, directive, function, function_expression, gives_back, ident, member, module_of, null, private, script, statement, this, try_catch}
 
 -- module: let x; var x
 abbrev pub redeclared : Parts
@@ -37,6 +37,20 @@ body_reached =
     (function (ident (codes "f")) (default_at (ident (codes "a")) (ident (codes "b")) ∷ []) (declaration 0 (declarator (ident (codes "b")) null ∷ []) ∷ [])
     ∷ [])
 
+-- module: function f(a = function () { return b }) { var b }
+abbrev pub body_reached_from_inside : Parts
+body_reached_from_inside =
+    module_of
+    (function (ident (codes "f")) (default_at (ident (codes "a")) (function_expression null [] (gives_back (ident (codes "b")) ∷ [])) ∷ []) (declaration 0 (declarator (ident (codes "b")) null ∷ []) ∷ [])
+    ∷ [])
+
+-- module: (function f(a = f) { var f })
+abbrev pub own_name_reached : Parts
+own_name_reached =
+    module_of
+    (statement (function_expression (ident (codes "f")) (default_at (ident (codes "a")) (ident (codes "f")) ∷ []) (declaration 0 (declarator (ident (codes "f")) null ∷ []) ∷ []))
+    ∷ [])
+
 -- module: function f(b, a = b) { var b }
 abbrev pub parameter_reached : Parts
 parameter_reached =
@@ -51,6 +65,13 @@ undeclared_private = module_of (statement (member this (private (codes "q"))) �
 -- script: { function g() {} }
 abbrev pub sloppy_function : Parts
 sloppy_function = script (block (function (ident (codes "g")) [] [] ∷ []) ∷ [])
+
+-- script: { function g() { "use strict" } }
+abbrev pub sloppy_function_with_directive : Parts
+sloppy_function_with_directive =
+    script
+    (block (function (ident (codes "g")) [] (directive (codes "use strict") (codes "\"use strict\"") ∷ []) ∷ [])
+    ∷ [])
 
 -- module: { function g() {} }
 abbrev pub strict_function : Parts

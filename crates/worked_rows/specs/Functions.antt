@@ -1,7 +1,7 @@
 -- Functions, their parameters and own names, and what code can name while it runs. Made by tools/worked_rows.py.
 use Rattle.std.specs.Prelude.{[], ◌∷◌, codes}
 use Rattle.tree_nodes.specs.Tree.{Parts}
-use Rattle.worked_rows.specs.Makers.{assignment, block, call, declaration, declarator, default_at, function, function_expression, gives_back, ident, member, null, number, object, property, script, statement, string, this, with_object}
+use Rattle.worked_rows.specs.Makers.{assignment, block, call, declaration, declarator, default_at, function, function_expression, gives_back, ident, member, module_of, null, number, object, property, script, statement, string, this, with_object}
 
 -- script: function f(a) { return a }
 abbrev pub declared_function : Parts
@@ -95,6 +95,20 @@ recursion_by_one_name =
     (statement (function_expression (ident (codes "e")) (ident (codes "e") ∷ []) (gives_back (call (ident (codes "e")) (ident (codes "e") ∷ [])) ∷ []))
     ∷ [])
 
+-- module: function f0(a) { return f0(a) }
+abbrev pub recursive_declaration : Parts
+recursive_declaration =
+    module_of
+    (function (ident (codes "f0")) (ident (codes "a") ∷ []) (gives_back (call (ident (codes "f0")) (ident (codes "a") ∷ [])) ∷ [])
+    ∷ [])
+
+-- module: function e(t) { return e(t) }
+abbrev pub recursive_declaration_mangled : Parts
+recursive_declaration_mangled =
+    module_of
+    (function (ident (codes "e")) (ident (codes "t") ∷ []) (gives_back (call (ident (codes "e")) (ident (codes "t") ∷ [])) ∷ [])
+    ∷ [])
+
 -- script: (function f(a = f) {})
 abbrev pub default_of_function : Parts
 default_of_function =
@@ -163,6 +177,27 @@ abbrev pub with_statement_renamed : Parts
 with_statement_renamed =
     script
     (function (ident (codes "f")) (ident (codes "o") ∷ ident (codes "t") ∷ []) (with_object (ident (codes "o")) (block (statement (ident (codes "t")) ∷ declaration 1 (declarator (ident (codes "e")) (number 1 (codes "1")) ∷ []) ∷ statement (ident (codes "e")) ∷ [])) ∷ [])
+    ∷ [])
+
+-- script: function f(arguments, a) { return arguments }
+abbrev pub arguments_declared : Parts
+arguments_declared =
+    script
+    (function (ident (codes "f")) (ident (codes "arguments") ∷ ident (codes "a") ∷ []) (gives_back (ident (codes "arguments")) ∷ [])
+    ∷ [])
+
+-- script: function f(arguments, e) { return arguments }
+abbrev pub arguments_declared_mangled : Parts
+arguments_declared_mangled =
+    script
+    (function (ident (codes "f")) (ident (codes "arguments") ∷ ident (codes "e") ∷ []) (gives_back (ident (codes "arguments")) ∷ [])
+    ∷ [])
+
+-- script: function f(t, e) { return t }
+abbrev pub arguments_renamed : Parts
+arguments_renamed =
+    script
+    (function (ident (codes "f")) (ident (codes "t") ∷ ident (codes "e") ∷ []) (gives_back (ident (codes "t")) ∷ [])
     ∷ [])
 
 -- script: (function (root, factory) { root.lib = factory() })(this, function () { var count = 0; function next(step) { count += step; return count } return { next: next } })

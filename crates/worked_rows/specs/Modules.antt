@@ -1,7 +1,7 @@
 -- Imports and exports. Made by tools/worked_rows.py.
 use Rattle.std.specs.Prelude.{[], ◌∷◌, codes}
 use Rattle.tree_nodes.specs.Tree.{Parts}
-use Rattle.worked_rows.specs.Makers.{declaration, declarator, export, export_names, exported, function, gives_back, ident, import_from, imported, module_of, number, statement, string}
+use Rattle.worked_rows.specs.Makers.{declaration, declarator, export, export_names, exported, function, gives_back, ident, import_from, imported, module_of, null, number, statement, string}
 
 -- module: export const x = 1; let y = x; export { y as z }
 abbrev pub exports : Parts
@@ -51,6 +51,33 @@ abbrev pub exported_function_mangled : Parts
 exported_function_mangled =
     module_of
     (export (function (ident (codes "f")) (ident (codes "e") ∷ []) (gives_back (ident (codes "e")) ∷ []))
+    ∷ [])
+
+-- module: var x = 1; export var x; let y = x
+abbrev pub exported_again : Parts
+exported_again =
+    module_of
+    (declaration 0 (declarator (ident (codes "x")) (number 1 (codes "1")) ∷ [])
+    ∷ export (declaration 0 (declarator (ident (codes "x")) null ∷ []))
+    ∷ declaration 1 (declarator (ident (codes "y")) (ident (codes "x")) ∷ [])
+    ∷ [])
+
+-- module: var x = 1; export var x; let e = x
+abbrev pub exported_again_mangled : Parts
+exported_again_mangled =
+    module_of
+    (declaration 0 (declarator (ident (codes "x")) (number 1 (codes "1")) ∷ [])
+    ∷ export (declaration 0 (declarator (ident (codes "x")) null ∷ []))
+    ∷ declaration 1 (declarator (ident (codes "e")) (ident (codes "x")) ∷ [])
+    ∷ [])
+
+-- module: var t = 1; export var t; let e = t
+abbrev pub exported_again_renamed : Parts
+exported_again_renamed =
+    module_of
+    (declaration 0 (declarator (ident (codes "t")) (number 1 (codes "1")) ∷ [])
+    ∷ export (declaration 0 (declarator (ident (codes "t")) null ∷ []))
+    ∷ declaration 1 (declarator (ident (codes "e")) (ident (codes "t")) ∷ [])
     ∷ [])
 
 -- module: import { a } from "m"; a

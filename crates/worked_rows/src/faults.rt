@@ -5,15 +5,20 @@ ghost use Rattle.worked_rows.specs.Asked.{defaults};
 ghost use Rattle.worked_rows.specs.Faulty as row;
 ghost use Rattle.worked_rows.specs.Judged.{Crossing, IsAnswer, IsFaulty, Reach, Redeclaration, SloppyFunction, Undeclared, is_valid};
 
-/// Each fault alone.
+/// Each fault alone. A parameter reaches a declaration of the body also from a function inside its
+/// default, and by the function's own name where the body declares it; a directive in a function's own
+/// body doesn't make its declaration strict.
 pub fn scope_faults()
     ensures redeclared { IsFaulty Redeclaration row.redeclared }
     ensures crossed { IsFaulty Crossing row.crossed }
     ensures catch_crossed { IsFaulty Crossing row.catch_crossed }
     ensures using_crossed { IsFaulty Crossing row.using_crossed }
     ensures body_reached { IsFaulty Reach row.body_reached }
+    ensures reached_from_inside { IsFaulty Reach row.body_reached_from_inside }
+    ensures own_name_reached { IsFaulty Reach row.own_name_reached }
     ensures undeclared_private { IsFaulty Undeclared row.undeclared_private }
     ensures sloppy_function { IsFaulty SloppyFunction row.sloppy_function }
+    ensures own_directive { IsFaulty SloppyFunction row.sloppy_function_with_directive }
 {}
 
 /// A function in a block is sound in a module, in a script that asks for strict code, and where it is

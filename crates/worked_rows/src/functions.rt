@@ -27,6 +27,7 @@ pub fn function_name_keeps_apart()
     ensures unused { IsAnswer defaults row.unshadowed_name row.unshadowed_name_mangled }
     ensures used { IsAnswer defaults row.recursion row.recursion_mangled }
     ensures one_name { IsRefusedBy (Bound ∷ Fewest ∷ []) defaults row.recursion row.recursion_by_one_name }
+    ensures declared { IsAnswer defaults row.recursive_declaration row.recursive_declaration_mangled }
 {}
 
 /// A default may name its own function: that is no fault, though parameters and body are one scope.
@@ -47,6 +48,12 @@ pub fn direct_eval_keeps()
 pub fn with_statement_keeps()
     ensures answer { IsAnswer defaults row.with_statement row.with_statement_mangled }
     ensures renamed { IsRefusedBy (Stay ∷ []) defaults row.with_statement row.with_statement_renamed }
+{}
+
+/// A binding named `arguments` keeps its name, since each function has one of its own.
+pub fn arguments_stays()
+    ensures answer { IsAnswer defaults row.arguments_declared row.arguments_declared_mangled }
+    ensures renamed { IsRefusedBy (Stay ∷ []) defaults row.arguments_declared row.arguments_renamed }
 {}
 
 /// A library in its wrapper: names that aren't in use together are given twice. Refused is the tree
