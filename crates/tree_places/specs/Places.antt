@@ -172,11 +172,12 @@ pub record Seen : Type 0 where
   pub withs : List Scope
 
 unfoldable pub enter : Row → Parts → Setting → Seen → Around
-enter r fields e s = record
-    { outside = e
-    ; inside = opened r.opens (length s.scopes) s.classes (record e { strict = strict_in r.strict e.strict fields })
-    ; fields = fields
-    ; number = s.nodes }
+enter r fields e s = record {
+  outside = e;
+  inside = opened r.opens (length s.scopes) s.classes (record e { strict = strict_in r.strict e.strict fields });
+  fields = fields;
+  number = s.nodes;
+}
 
 -- a node is met that opens this and starts at b, where e holds and inner is the scope inside it
 unfoldable pub met : Opens → ℕ → Setting → Scope → Seen → Seen

@@ -1,13 +1,9 @@
-//! The places of names in a tree.
+//! The places of names in a tree, and their scopes: definitions that contracts cite.
+//!
+//! The definitions stand in `specs/`: scopes, places, what a renamed tree is, and the lineages of
+//! places. The functions here do nothing: each has a law as its contract.
 #![tactic(auto)]
 
-ghost use Rattle.std.specs.Prelude.{◌≡◌};
-ghost use Rattle.tree_places.specs.Renaming.{IsRenamed};
-ghost use Rattle.tree_places.specs.Places.{places};
-ghost use Rattle.tree_places.specs.Scopes.{is_inside};
+mod laws;
 
-pub fn zero() -> usize
-    ensures { result ≡ 0 }
-{
-    0
-}
+pub use laws::{numbers_rise, renaming_moves_no_place, scopes_are_nearest, var_scopes_lie_outside};

@@ -1,5 +1,5 @@
 -- What each place is bound to (ECMA-262, ResolveBinding, with what each scope declares gathered before any code runs). A binding is a place, and stands as the number of its node. Names are of any type, with a test of which are the same.
-use Rattle.std.specs.Prelude.{ℕ, Bool, false, ◌&&◌, nat_eq, List, [], map, Option, Some, None, bytes_eq, find, if◌then◌else◌}
+use Rattle.std.specs.Prelude.{ℕ, Bool, false, ◌&&◌, nat_eq, List, map, Option, Some, None, bytes_eq, find, if◌then◌else◌}
 use Rattle.tree_nodes.specs.Tree.{Text}
 use Rattle.tree_places.specs.Places.{Named}
 use Rattle.tree_places.specs.Scopes.{Scope, first_outwards, same_scope}

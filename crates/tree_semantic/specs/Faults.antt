@@ -1,5 +1,5 @@
 -- What makes a tree's scopes faulty. A redeclaration, a crossing and an undeclared private name are early errors of ECMA-262 (Static Semantics: Early Errors of Block, Script, Module, Functions, Try and Class Definitions). Three things are refused here that it takes: a plain function in a block of sloppy code and a `var` that crosses a catch parameter (its annex B), since such a name stands for two variables at once, and a parameter that reaches past a declaration of the body, since parameters and body are one scope here.
-use Rattle.std.specs.Prelude.{ℕ, Bool, true, false, not, ◌&&◌, ◌||◌, nat_eq, List, [], ◌∷◌, Option, Some, None, is_some}
+use Rattle.std.specs.Prelude.{ℕ, Bool, false, not, ◌&&◌, ◌||◌, nat_eq, List, [], ◌∷◌, Some, None, is_some}
 use Rattle.std.specs.List.{list_any}
 use Rattle.tree_nodes.specs.declared.table.Declared.TheVariants.{Function}
 use Rattle.tree_nodes.specs.declared.table.Role.{Role}

@@ -3,4 +3,5 @@ pub mod Bindings
 pub mod PrivateNames
 pub mod Evals
 pub mod Faults
+pub mod Renamings
 pub mod Open

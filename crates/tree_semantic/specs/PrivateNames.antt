@@ -1,5 +1,5 @@
 -- What each private name is bound to (ECMA-262, Class Definitions, ResolvePrivateIdentifier).
-use Rattle.std.specs.Prelude.{ℕ, Bool, true, false, not, ◌&&◌, ◌||◌, nat_eq, List, [], ◌∷◌, map, Option, Some, None, find, filter, if◌then◌else◌}
+use Rattle.std.specs.Prelude.{ℕ, Bool, true, false, ◌&&◌, nat_eq, List, [], ◌∷◌, map, Option, Some, None, find, filter, if◌then◌else◌}
 use Rattle.std.specs.List.{list_any}
 use Rattle.tree_nodes.specs.Tree.{Text}
 use Rattle.tree_nodes.specs.declared.table.Role.{Role}

@@ -1,11 +1,9 @@
-//! The bindings of names in a tree.
+//! The bindings of names in a tree: definitions that contracts cite.
 #![tactic(auto)]
 
-ghost use Rattle.std.specs.Prelude.{◌≡◌};
-ghost use Rattle.tree_semantic.specs.Faults.{has_fault};
+mod laws;
 
-pub fn zero() -> usize
-    ensures { result ≡ 0 }
-{
-    0
-}
+pub use laws::{bindings_stay, faults_are_never_new};
+
+#[cfg(test)]
+mod tests;
