@@ -78,6 +78,8 @@ TREES = {
             module("discriminant_mangled", "switch (function (e) { return e }) { case 0: let e; e }"),
             module("using_declared", "{ using x = g(); x } { await using y = g(); y }"),
             module("using_declared_mangled", "{ using e = g(); e } { await using e = g(); e }"),
+            module("catch_parameter", "try { f() } catch (error) { let a = error; a }"),
+            module("catch_parameter_mangled", "try { f() } catch (e) { let t = e; t }"),
         ],
     ),
     "Functions": (
@@ -106,6 +108,8 @@ TREES = {
             script("direct_eval_mangled", 'function f(a) { eval("a"); function g(e) { return e } }'),
             script("direct_eval_renamed", 'function f(t) { eval("a"); function g(e) { return e } }'),
             script("direct_eval_by_kept_name", 'function f(a) { eval("a"); function g(a) { return a } }'),
+            module("indirect_eval", 'let f = eval; let x = 1; f("x")'),
+            module("indirect_eval_mangled", 'let e = eval; let t = 1; e("x")'),
             script("with_statement", "function f(o, a) { with (o) { a; let b = 1; b } }"),
             script("with_statement_mangled", "function f(o, a) { with (o) { a; let e = 1; e } }"),
             script("with_statement_renamed", "function f(o, t) { with (o) { t; let e = 1; e } }"),
@@ -173,6 +177,8 @@ TREES = {
                 "private_chain_past_its_class",
                 "class e { #e; m() { class e { #t; n() { class e { #n; k(e) { return e.#e } } } } } }",
             ),
+            module("heritage", "class A { #x; m(o) { return class extends o.#x { #x; } } }"),
+            module("heritage_mangled", "class e { #e; m(e) { return class extends e.#e { #t; } } }"),
             module("open_class", 'class A { #x; m() { eval("this.#x") } }'),
             module("open_class_renamed", 'class A { #e; m() { eval("this.#x") } }'),
             module(
@@ -194,6 +200,15 @@ TREES = {
             module("assigned_function_renamed", "var e; e ||= function () {}"),
             module("named_expression", "var foo = function bar() {}"),
             module("named_expression_mangled", "var e = function bar() {}"),
+            module("initial_values", "let foo = function () {}; let Bar = class {}"),
+            module("initial_values_for_functions", "let foo = function () {}; let e = class {}"),
+            module("initial_values_for_classes", "let e = function () {}; let Bar = class {}"),
+            module("named_class_expression", "let x = class Foo {}"),
+            module("named_class_expression_mangled", "let e = class Foo {}"),
+            module("parameter_default", "function foo(a = function () {}) {}"),
+            module("parameter_default_mangled", "function foo(e = function () {}) {}"),
+            module("target_default", "var foo; [foo = function () {}] = []"),
+            module("target_default_renamed", "var e; [e = function () {}] = []"),
             module("class_by_default", "var [Foo = class {}] = []"),
             module("class_by_default_renamed", "var [e = class {}] = []"),
             module("function_in_rest", "var [...foo] = [function () {}]"),
@@ -205,12 +220,15 @@ TREES = {
             script("class_in_function", "(function f() { class f {} f })"),
             script("class_in_function_renamed", "(function e() { class f {} f })"),
             script("class_in_function_mangled", "(function e() { class e {} e })"),
+            script("class_in_function_for_functions", "(function f() { class e {} e })"),
         ],
     ),
     "Faulty": (
         "Trees with faults in their scopes, and trees beside them that have none.",
         [
             module("redeclared", "let x; var x"),
+            module("parameter_redeclared", "function f(a) { let a }"),
+            module("catch_parameter_redeclared", "try {} catch (e) { let e }"),
             module("crossed", "{ let x; { var x } }"),
             module("catch_crossed", "try {} catch (e) { var e }"),
             module("using_crossed", "{ using x = a; var x }"),
@@ -224,6 +242,8 @@ TREES = {
             module("strict_function", "{ function g() {} }"),
             module("strict_function_mangled", "{ function e() {} }"),
             script("directed_function", '"use strict"; { function g() {} }'),
+            script("function_in_directed", 'function f() { "use strict"; { function g() {} } }'),
+            script("function_in_class", "class A { m() { { function g() {} } } }"),
             script("async_function_in_block", "{ async function g() {} }"),
             script("joined", "var x; var x; function x() {}"),
         ],
@@ -316,7 +336,11 @@ class Parser:
     # expressions
 
     def expression(self):
+        start = self.at
         left = self.operand()
+        if self.peek() == "=" and left[0] in ("array", "object"):
+            self.at = start
+            left = self.pattern()
         if self.peek() in OPERATORS:
             return "assignment", str(OPERATORS.index(self.take())), left, self.expression()
         return left
@@ -345,7 +369,8 @@ class Parser:
         if self.eat("function"):
             return ("function_expression", self.ident() if self.is_name() else NULL, *self.function_rest())
         if self.eat("class"):
-            return "class_expression", self.ident() if self.is_name() else NULL, self.class_body()
+            name = self.ident() if self.is_name() and self.peek() != "extends" else NULL
+            return ("class_expression", name, *self.class_rest())
         if self.peek().isdigit():
             digits = self.take()
             return "number", digits, codes(digits)
@@ -371,12 +396,13 @@ class Parser:
         self.need("{")
         return params, self.statements("}")
 
-    def class_body(self):
+    def class_rest(self):
+        heritage = self.operand() if self.eat("extends") else NULL
         self.need("{")
         members = []
         while not self.eat("}"):
             members.append(self.class_member())
-        return members
+        return heritage, members
 
     def class_member(self):
         static = ON if self.eat("static") else OFF
@@ -412,7 +438,7 @@ class Parser:
             return ("async_function", self.ident(), *self.function_rest())
         if token == "class":
             self.take()
-            return "class", self.ident(), self.class_body()
+            return ("class", self.ident(), *self.class_rest())
         if token == "switch":
             return self.switch()
         if token == "try":

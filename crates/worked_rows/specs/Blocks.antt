@@ -1,7 +1,7 @@
 -- Declarations in modules and blocks. Made by tools/worked_rows.py.
 use Rattle.std.specs.Prelude.{[], ◌∷◌, codes}
 use Rattle.tree_nodes.specs.Tree.{Parts}
-use Rattle.worked_rows.specs.Makers.{block, call, case, declaration, declarator, default_at, function_expression, gives_back, ident, labeled, leave, module_of, null, number, object, object_pattern, property, shorthand, statement, switch}
+use Rattle.worked_rows.specs.Makers.{block, call, case, declaration, declarator, default_at, function_expression, gives_back, ident, labeled, leave, module_of, null, number, object, object_pattern, property, shorthand, statement, switch, try_catch}
 
 -- module: let x = 1; x
 abbrev pub acorn_module : Parts
@@ -381,4 +381,18 @@ using_declared_mangled =
     module_of
     (block (declaration 3 (declarator (ident (codes "e")) (call (ident (codes "g")) []) ∷ []) ∷ statement (ident (codes "e")) ∷ [])
     ∷ block (declaration 4 (declarator (ident (codes "e")) (call (ident (codes "g")) []) ∷ []) ∷ statement (ident (codes "e")) ∷ [])
+    ∷ [])
+
+-- module: try { f() } catch (error) { let a = error; a }
+abbrev pub catch_parameter : Parts
+catch_parameter =
+    module_of
+    (try_catch (statement (call (ident (codes "f")) []) ∷ []) (ident (codes "error")) (declaration 1 (declarator (ident (codes "a")) (ident (codes "error")) ∷ []) ∷ statement (ident (codes "a")) ∷ [])
+    ∷ [])
+
+-- module: try { f() } catch (e) { let t = e; t }
+abbrev pub catch_parameter_mangled : Parts
+catch_parameter_mangled =
+    module_of
+    (try_catch (statement (call (ident (codes "f")) []) ∷ []) (ident (codes "e")) (declaration 1 (declarator (ident (codes "t")) (ident (codes "e")) ∷ []) ∷ statement (ident (codes "t")) ∷ [])
     ∷ [])

@@ -1,7 +1,7 @@
 -- Trees with faults in their scopes, and trees beside them that have none. Made by tools/worked_rows.py.
 use Rattle.std.specs.Prelude.{[], ◌∷◌, codes}
 use Rattle.tree_nodes.specs.Tree.{Parts}
-use Rattle.worked_rows.specs.Makers.{async_function, block, declaration, declarator, default_at, directive, function, function_expression, gives_back, ident, member, module_of, null, private, script, statement, this, try_catch}
+use Rattle.worked_rows.specs.Makers.{async_function, block, class, declaration, declarator, default_at, directive, function, function_expression, gives_back, ident, member, method, module_of, null, off, private, script, statement, this, try_catch}
 
 -- module: let x; var x
 abbrev pub redeclared : Parts
@@ -10,6 +10,18 @@ redeclared =
     (declaration 1 (declarator (ident (codes "x")) null ∷ [])
     ∷ declaration 0 (declarator (ident (codes "x")) null ∷ [])
     ∷ [])
+
+-- module: function f(a) { let a }
+abbrev pub parameter_redeclared : Parts
+parameter_redeclared =
+    module_of
+    (function (ident (codes "f")) (ident (codes "a") ∷ []) (declaration 1 (declarator (ident (codes "a")) null ∷ []) ∷ [])
+    ∷ [])
+
+-- module: try {} catch (e) { let e }
+abbrev pub catch_parameter_redeclared : Parts
+catch_parameter_redeclared =
+    module_of (try_catch [] (ident (codes "e")) (declaration 1 (declarator (ident (codes "e")) null ∷ []) ∷ []) ∷ [])
 
 -- module: { let x; { var x } }
 abbrev pub crossed : Parts
@@ -87,6 +99,20 @@ directed_function =
     script
     (directive (codes "use strict") (codes "\"use strict\"")
     ∷ block (function (ident (codes "g")) [] [] ∷ [])
+    ∷ [])
+
+-- script: function f() { "use strict"; { function g() {} } }
+abbrev pub function_in_directed : Parts
+function_in_directed =
+    script
+    (function (ident (codes "f")) [] (directive (codes "use strict") (codes "\"use strict\"") ∷ block (function (ident (codes "g")) [] [] ∷ []) ∷ [])
+    ∷ [])
+
+-- script: class A { m() { { function g() {} } } }
+abbrev pub function_in_class : Parts
+function_in_class =
+    script
+    (class (ident (codes "A")) null (method 1 off (ident (codes "m")) [] (block (function (ident (codes "g")) [] [] ∷ []) ∷ []) ∷ [])
     ∷ [])
 
 -- script: { async function g() {} }

@@ -158,6 +158,24 @@ direct_eval_by_kept_name =
     (function (ident (codes "f")) (ident (codes "a") ∷ []) (statement (call (ident (codes "eval")) (string (codes "a") (codes "\"a\"") ∷ [])) ∷ function (ident (codes "g")) (ident (codes "a") ∷ []) (gives_back (ident (codes "a")) ∷ []) ∷ [])
     ∷ [])
 
+-- module: let f = eval; let x = 1; f("x")
+abbrev pub indirect_eval : Parts
+indirect_eval =
+    module_of
+    (declaration 1 (declarator (ident (codes "f")) (ident (codes "eval")) ∷ [])
+    ∷ declaration 1 (declarator (ident (codes "x")) (number 1 (codes "1")) ∷ [])
+    ∷ statement (call (ident (codes "f")) (string (codes "x") (codes "\"x\"") ∷ []))
+    ∷ [])
+
+-- module: let e = eval; let t = 1; e("x")
+abbrev pub indirect_eval_mangled : Parts
+indirect_eval_mangled =
+    module_of
+    (declaration 1 (declarator (ident (codes "e")) (ident (codes "eval")) ∷ [])
+    ∷ declaration 1 (declarator (ident (codes "t")) (number 1 (codes "1")) ∷ [])
+    ∷ statement (call (ident (codes "e")) (string (codes "x") (codes "\"x\"") ∷ []))
+    ∷ [])
+
 -- script: function f(o, a) { with (o) { a; let b = 1; b } }
 abbrev pub with_statement : Parts
 with_statement =

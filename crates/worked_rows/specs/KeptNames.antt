@@ -41,18 +41,86 @@ named_expression_mangled =
     (declaration 0 (declarator (ident (codes "e")) (function_expression (ident (codes "bar")) [] []) ∷ [])
     ∷ [])
 
+-- module: let foo = function () {}; let Bar = class {}
+abbrev pub initial_values : Parts
+initial_values =
+    module_of
+    (declaration 1 (declarator (ident (codes "foo")) (function_expression null [] []) ∷ [])
+    ∷ declaration 1 (declarator (ident (codes "Bar")) (class_expression null null []) ∷ [])
+    ∷ [])
+
+-- module: let foo = function () {}; let e = class {}
+abbrev pub initial_values_for_functions : Parts
+initial_values_for_functions =
+    module_of
+    (declaration 1 (declarator (ident (codes "foo")) (function_expression null [] []) ∷ [])
+    ∷ declaration 1 (declarator (ident (codes "e")) (class_expression null null []) ∷ [])
+    ∷ [])
+
+-- module: let e = function () {}; let Bar = class {}
+abbrev pub initial_values_for_classes : Parts
+initial_values_for_classes =
+    module_of
+    (declaration 1 (declarator (ident (codes "e")) (function_expression null [] []) ∷ [])
+    ∷ declaration 1 (declarator (ident (codes "Bar")) (class_expression null null []) ∷ [])
+    ∷ [])
+
+-- module: let x = class Foo {}
+abbrev pub named_class_expression : Parts
+named_class_expression =
+    module_of
+    (declaration 1 (declarator (ident (codes "x")) (class_expression (ident (codes "Foo")) null []) ∷ [])
+    ∷ [])
+
+-- module: let e = class Foo {}
+abbrev pub named_class_expression_mangled : Parts
+named_class_expression_mangled =
+    module_of
+    (declaration 1 (declarator (ident (codes "e")) (class_expression (ident (codes "Foo")) null []) ∷ [])
+    ∷ [])
+
+-- module: function foo(a = function () {}) {}
+abbrev pub parameter_default : Parts
+parameter_default =
+    module_of
+    (function (ident (codes "foo")) (default_at (ident (codes "a")) (function_expression null [] []) ∷ []) []
+    ∷ [])
+
+-- module: function foo(e = function () {}) {}
+abbrev pub parameter_default_mangled : Parts
+parameter_default_mangled =
+    module_of
+    (function (ident (codes "foo")) (default_at (ident (codes "e")) (function_expression null [] []) ∷ []) []
+    ∷ [])
+
+-- module: var foo; [foo = function () {}] = []
+abbrev pub target_default : Parts
+target_default =
+    module_of
+    (declaration 0 (declarator (ident (codes "foo")) null ∷ [])
+    ∷ statement (assignment 0 (array_pattern (default_at (ident (codes "foo")) (function_expression null [] []) ∷ [])) (array []))
+    ∷ [])
+
+-- module: var e; [e = function () {}] = []
+abbrev pub target_default_renamed : Parts
+target_default_renamed =
+    module_of
+    (declaration 0 (declarator (ident (codes "e")) null ∷ [])
+    ∷ statement (assignment 0 (array_pattern (default_at (ident (codes "e")) (function_expression null [] []) ∷ [])) (array []))
+    ∷ [])
+
 -- module: var [Foo = class {}] = []
 abbrev pub class_by_default : Parts
 class_by_default =
     module_of
-    (declaration 0 (declarator (array_pattern (default_at (ident (codes "Foo")) (class_expression null []) ∷ [])) (array []) ∷ [])
+    (declaration 0 (declarator (array_pattern (default_at (ident (codes "Foo")) (class_expression null null []) ∷ [])) (array []) ∷ [])
     ∷ [])
 
 -- module: var [e = class {}] = []
 abbrev pub class_by_default_renamed : Parts
 class_by_default_renamed =
     module_of
-    (declaration 0 (declarator (array_pattern (default_at (ident (codes "e")) (class_expression null []) ∷ [])) (array []) ∷ [])
+    (declaration 0 (declarator (array_pattern (default_at (ident (codes "e")) (class_expression null null []) ∷ [])) (array []) ∷ [])
     ∷ [])
 
 -- module: var [...foo] = [function () {}]
@@ -101,19 +169,26 @@ first_default_renamed =
 abbrev pub class_in_function : Parts
 class_in_function =
     script
-    (statement (function_expression (ident (codes "f")) [] (class (ident (codes "f")) [] ∷ statement (ident (codes "f")) ∷ []))
+    (statement (function_expression (ident (codes "f")) [] (class (ident (codes "f")) null [] ∷ statement (ident (codes "f")) ∷ []))
     ∷ [])
 
 -- script: (function e() { class f {} f })
 abbrev pub class_in_function_renamed : Parts
 class_in_function_renamed =
     script
-    (statement (function_expression (ident (codes "e")) [] (class (ident (codes "f")) [] ∷ statement (ident (codes "f")) ∷ []))
+    (statement (function_expression (ident (codes "e")) [] (class (ident (codes "f")) null [] ∷ statement (ident (codes "f")) ∷ []))
     ∷ [])
 
 -- script: (function e() { class e {} e })
 abbrev pub class_in_function_mangled : Parts
 class_in_function_mangled =
     script
-    (statement (function_expression (ident (codes "e")) [] (class (ident (codes "e")) [] ∷ statement (ident (codes "e")) ∷ []))
+    (statement (function_expression (ident (codes "e")) [] (class (ident (codes "e")) null [] ∷ statement (ident (codes "e")) ∷ []))
+    ∷ [])
+
+-- script: (function f() { class e {} e })
+abbrev pub class_in_function_for_functions : Parts
+class_in_function_for_functions =
+    script
+    (statement (function_expression (ident (codes "f")) [] (class (ident (codes "e")) null [] ∷ statement (ident (codes "e")) ∷ []))
     ∷ [])

@@ -66,7 +66,7 @@ property key value = node Property (word 0 ∷ key ∷ value ∷ off ∷ off ∷
 abbrev pub shorthand : (key value : Piece) → Piece
 shorthand key value = node Property (word 0 ∷ key ∷ value ∷ off ∷ on ∷ off ∷ [])
 
--- ---- functions and classes: a name or null, parameters, body; a name or null, members
+-- ---- functions and classes: a name or null, parameters, body; a name or null, what is extended or null, members
 
 abbrev pub body : List Piece → Piece
 body statements = node BlockStatement (list statements ∷ [])
@@ -83,11 +83,11 @@ function_expression name params statements = node FunctionExpression (name ∷ o
 abbrev pub members : List Piece → Piece
 members items = node ClassBody (list items ∷ [])
 
-abbrev pub class : Piece → List Piece → Piece
-class name items = node ClassDeclaration (name ∷ null ∷ members items ∷ [])
+abbrev pub class : Piece → Piece → List Piece → Piece
+class name heritage items = node ClassDeclaration (name ∷ heritage ∷ members items ∷ [])
 
-abbrev pub class_expression : Piece → List Piece → Piece
-class_expression name items = node ClassExpression (name ∷ null ∷ members items ∷ [])
+abbrev pub class_expression : Piece → Piece → List Piece → Piece
+class_expression name heritage items = node ClassExpression (name ∷ heritage ∷ members items ∷ [])
 
 abbrev pub field : Piece → Piece
 field key = node PropertyDefinition (key ∷ null ∷ off ∷ off ∷ [])

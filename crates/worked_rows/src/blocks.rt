@@ -92,6 +92,11 @@ pub fn discriminant_lies_outside()
     ensures { IsAnswer defaults row.discriminant row.discriminant_mangled }
 {}
 
+/// A catch parameter and the declarations of its block are in one scope.
+pub fn catch_parameter_declares()
+    ensures { IsAnswer defaults row.catch_parameter row.catch_parameter_mangled }
+{}
+
 /// `using` and `await using` declare as `const` does.
 pub fn using_declares()
     ensures { IsAnswer defaults row.using_declared row.using_declared_mangled }

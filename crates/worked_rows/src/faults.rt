@@ -10,6 +10,8 @@ ghost use Rattle.worked_rows.specs.Judged.{Crossing, IsAnswer, IsFaulty, Reach, 
 /// body doesn't make its declaration strict.
 pub fn scope_faults()
     ensures redeclared { IsFaulty Redeclaration row.redeclared }
+    ensures parameter_redeclared { IsFaulty Redeclaration row.parameter_redeclared }
+    ensures catch_redeclared { IsFaulty Redeclaration row.catch_parameter_redeclared }
     ensures crossed { IsFaulty Crossing row.crossed }
     ensures catch_crossed { IsFaulty Crossing row.catch_crossed }
     ensures using_crossed { IsFaulty Crossing row.using_crossed }
@@ -21,12 +23,14 @@ pub fn scope_faults()
     ensures own_directive { IsFaulty SloppyFunction row.sloppy_function_with_directive }
 {}
 
-/// A function in a block is sound in a module, in a script that asks for strict code, and where it is
-/// async; a parameter may be declared again in the body and named by a later default; `var`s and
+/// A function in a block is sound in a module, in a script or function that asks for strict code, in a
+/// class, and where it is async; a parameter may be declared again in the body and named by a later default; `var`s and
 /// functions of one scope may have one name.
 pub fn no_faults()
     ensures module { IsAnswer defaults row.strict_function row.strict_function_mangled }
     ensures directed { IsTrue (is_valid row.directed_function) }
+    ensures in_directed { IsTrue (is_valid row.function_in_directed) }
+    ensures in_class { IsTrue (is_valid row.function_in_class) }
     ensures async_function { IsTrue (is_valid row.async_function_in_block) }
     ensures parameter { IsTrue (is_valid row.parameter_reached) }
     ensures joined { IsTrue (is_valid row.joined) }

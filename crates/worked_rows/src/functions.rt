@@ -36,11 +36,13 @@ pub fn default_names_its_function()
     ensures one_name { IsRefusedBy (Bound ∷ Fewest ∷ []) defaults row.default_of_function row.default_of_function_by_one_name }
 {}
 
-/// What a direct eval can name stays, and is never given to another binding.
+/// What a direct eval can name stays, and is never given to another binding. `eval` under another name
+/// sees none of them.
 pub fn direct_eval_keeps()
     ensures answer { IsAnswer defaults row.direct_eval row.direct_eval_mangled }
     ensures renamed { IsRefusedBy (Stay ∷ []) defaults row.direct_eval row.direct_eval_renamed }
     ensures kept_name { IsRefusedBy (Free ∷ []) defaults row.direct_eval row.direct_eval_by_kept_name }
+    ensures indirect { IsAnswer defaults row.indirect_eval row.indirect_eval_mangled }
 {}
 
 /// What a `with` statement's object may have as a property stays; what is declared in its body

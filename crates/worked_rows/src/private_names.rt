@@ -15,6 +15,11 @@ pub fn private_names()
     ensures other_class { IsRefusedBy (Private ∷ []) defaults row.private_chain row.private_chain_past_its_class }
 {}
 
+/// What a class extends lies outside its body: a private name there is an outer class's.
+pub fn heritage_lies_outside()
+    ensures { IsAnswer defaults row.heritage row.heritage_mangled }
+{}
+
 /// The private names of a class whose body holds a direct eval stay, and classes inside it don't get
 /// them.
 pub fn open_classes_keep_private_names()
