@@ -1,5 +1,5 @@
 -- The names that are given (own, after oxc_mangler).
-use Rattle.std.specs.Prelude.{ℕ, zero, suc, ◌+◌, Bool, ◌&&◌, ◌||◌, nat_eq, nat_lt, List, [], ◌∷◌, map, length, Option, Some, None, get_or, filter}
+use Rattle.std.specs.Prelude.{ℕ, zero, suc, ◌+◌, Bool, ◌&&◌, ◌||◌, nat_eq, nat_lt, List, [], ◌∷◌, map, length, Some, None, get_or, filter}
 use Rattle.oxc_mangler.specs.FreeNames.{first_untaken, is_taken}
 use Rattle.oxc_mangler.specs.Groups.{Member, members}
 use Rattle.oxc_mangler.specs.Options.{Options}

@@ -6,9 +6,9 @@ use Rattle.tree_nodes.specs.Tree.{Text}
 use Rattle.tree_nodes.specs.declared.table.Declared.TheVariants.{Class, ClassName, Function, FunctionName}
 use Rattle.tree_nodes.specs.declared.table.Role.{Role}
 use Rattle.tree_nodes.specs.declared.table.Role.TheVariants.{Declares}
-use Rattle.tree_places.specs.Places.{Named, Place, Value, anonymous_class, anonymous_function, no_value, other_value}
+use Rattle.tree_places.specs.Places.{Place, Value, anonymous_class, anonymous_function, no_value, other_value}
 use Rattle.tree_places.specs.Scopes.{Scope, is_inside}
-use Rattle.tree_semantic.specs.Bindings.{Bound, is_binding, is_node, node, same_name, shadower}
+use Rattle.tree_semantic.specs.Bindings.{Bound, is_binding, is_node, node, same_name}
 use Rattle.tree_semantic.specs.Evals.{holds_eval}
 use Rattle.tree_semantic.specs.Homes.{declares, home, refers}
 use Rattle.tree_semantic.specs.PrivateNames.{is_among}

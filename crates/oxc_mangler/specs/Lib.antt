@@ -7,4 +7,6 @@ pub mod Slots
 pub mod GivenNames
 pub mod PrivateNumbers
 pub mod Mangled
+pub mod Laws
+pub mod NameOrder
 pub mod Open

@@ -1,5 +1,5 @@
 -- What a mangled tree is, its rivals, and what a tree's names cost (own).
-use Rattle.std.specs.Prelude.{◌≡◌, ℕ, Bool, true, false, not, ◌&&◌, ◌||◌, nat_eq, List, [], ◌∷◌, map, length, Option, Some, None, is_some, is_none, sum, IsTrue, IsFalse, if◌then◌else◌}
+use Rattle.std.specs.Prelude.{◌≡◌, ℕ, Bool, true, false, not, ◌&&◌, ◌||◌, nat_eq, List, [], ◌∷◌, map, length, Option, Some, is_some, is_none, sum, IsTrue, IsFalse, if◌then◌else◌}
 use Rattle.std.specs.List.{list_all}
 use Rattle.oxc_mangler.specs.FreeNames.{is_free, is_unchanged}
 use Rattle.oxc_mangler.specs.Groups.{Member, greatest_width, members}

@@ -1,5 +1,5 @@
 -- The order in which names are taken (own, after oxc_mangler's base54).
-use Rattle.std.specs.Prelude.{ℕ, zero, suc, ◌+◌, ◌/◌, ◌%◌, Bool, true, false, nat_lt, List, [], ◌∷◌, codes, get_or, if◌then◌else◌}
+use Rattle.std.specs.Prelude.{ℕ, zero, suc, ◌+◌, ◌/◌, ◌%◌, Bool, true, false, nat_lt, [], ◌∷◌, codes, get_or, if◌then◌else◌}
 use Rattle.tree_nodes.specs.Tree.{Text}
 
 -- the 64 characters of names; a name begins with one of the first 54

@@ -1,11 +1,9 @@
-//! The names that mangling gives.
+//! The names that mangling gives: definitions that contracts cite.
 #![tactic(auto)]
 
-ghost use Rattle.std.specs.Prelude.{◌≡◌};
-ghost use Rattle.oxc_mangler.specs.Mangled.{IsMangled, IsRival, cost};
+mod laws;
 
-pub fn zero() -> usize
-    ensures { result ≡ 0 }
-{
-    0
-}
+pub use laws::{
+    lengths_never_fall, live_together, live_up_to_home, short_is_one_to_one, slots_are_fewest,
+    slots_never_clash,
+};

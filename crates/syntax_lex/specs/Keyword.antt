@@ -1,7 +1,8 @@
 -- Reserved words (ECMA-262, 12.7.2) and value properties of the global object (ECMA-262, 19.1). A text is its bytes.
-use Rattle.std.specs.Prelude.{ℕ, Bool, List, [], ◌∷◌, codes, nat_eq}
-use Rattle.std.specs.Cmp.Lexicographic.{pointwise}
+use Rattle.std.specs.Prelude.{ℕ, Bool, true, ◌&&◌, List, [], ◌∷◌, codes, nat_eq}
+use Rattle.std.specs.Cmp.Lexicographic.{pointwise, slice_cmp}
 use Rattle.std.specs.List.{list_any}
+use Rattle.std.specs.Ordering.{is_lt, nat_cmp}
 
 -- words, and of these 'let' and 'static', 'await' and 'yield', and the future reserved words are so in some contexts alone
 unfoldable pub reserved_keywords : List (List ℕ)
@@ -26,3 +27,9 @@ is_reserved_keyword text = is_among reserved_keywords text
 
 unfoldable pub is_global_object : List ℕ → Bool
 is_global_object text = is_among global_objects text
+
+-- each text is before the next one, byte by byte
+abbrev pub are_rising : List (List ℕ) → Bool
+are_rising [] = true
+are_rising (text ∷ []) = true
+are_rising (text ∷ next ∷ texts) = is_lt (slice_cmp nat_cmp text next) && are_rising (next ∷ texts)

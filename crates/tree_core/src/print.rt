@@ -373,3 +373,6 @@ fn write_item<S: Serializer>(item: &Option<Node>, serializer: &mut S) -> Result<
         None => ().serialize(serializer),
     }
 }
+
+#[cfg(test)]
+mod tests;

@@ -1,8 +1,12 @@
-//! How nodes are built and looked into, and how rows are found.
+//! How nodes are built and looked into, how rows are found, and what a field says.
 
+use crate::literals::{LiteralCase, case_of, has_case, is_fixed, is_key, is_text};
+use crate::roles::{empty_at, flag_at, role_at, word_at};
 use crate::{
-    Field, FieldList, KINDS, Kind, Node, NodeList, TreeText, Words, row, row_named, word_list,
+    Declared, Field, FieldList, KINDS, Kind, Mode, Node, NodeList, Role, TreeText, Words,
+    is_placed, row, row_named, word_list,
 };
+use std::alloc::{AllocError, Global};
 use std::test::Fail;
 
 #[test]
@@ -36,5 +40,74 @@ fn rows_are_found(rt: HostRuntime) -> Result<(), Fail> {
         (KINDS.len(), word_list(Words::UpdateOperators).len()),
         (73, 2)
     );
+    assert!(rt; Kind::Super.is(Kind::Super) && !Kind::Super.is(Kind::Program));
+    assert!(rt; Kind::Super.is_among(&[Kind::Program, Kind::Super]));
+    assert!(rt; !Kind::Super.is_among(&[]));
+    Ok(())
+}
+
+fn big_int(alloc: Global) -> Result<FieldList, AllocError> {
+    let raw = Field::Text(TreeText::from_string(String::from_str(alloc, "1n")?));
+    let digits = Field::Text(TreeText::from_string(String::from_str(alloc, "1")?));
+    let fields = vec![in alloc; Field::Empty, raw, Field::Empty, Field::Empty, digits]?;
+    Ok(FieldList::from_vec(fields))
+}
+
+#[test]
+fn a_literal_is_told(rt: HostRuntime) -> Result<(), Fail> {
+    let fields = big_int(rt.alloc())?;
+    assert!(rt; matches!(case_of(&fields), LiteralCase::BigInt));
+    assert!(rt; has_case(&fields) && is_fixed(&fields) && is_key(&fields) && !is_text(&fields));
+    Ok(())
+}
+
+#[test]
+fn fields_say_roles(rt: HostRuntime) -> Result<(), Fail> {
+    let fields = FieldList::from_vec(vec![in rt.alloc();
+        Field::Empty,
+        Field::Flag(true),
+        Field::Word(2),
+    ]?);
+    assert!(rt; empty_at(&fields, 0) && !empty_at(&fields, 1) && !empty_at(&fields, 3));
+    assert!(rt; flag_at(&fields, 1) && !flag_at(&fields, 0));
+    assert_eq!(rt; (word_at(&fields, 2), word_at(&fields, 1)), (2, 0));
+    assert!(rt;
+        matches!(
+            role_at(Mode::ByKind(2), Role::Read, &fields),
+            Role::Declares(Declared::Const)
+        )
+    );
+    Ok(())
+}
+
+fn program(alloc: Global, body: Vec<Option<Node>>) -> Result<Node, AllocError> {
+    let body = Field::List(NodeList::from_vec(body));
+    let fields = vec![in alloc; body, Field::Word(0), Field::Empty]?;
+    Ok(Node {
+        kind: Kind::Program,
+        start: 0,
+        end: 0,
+        fields: FieldList::from_vec(fields),
+    })
+}
+
+#[test]
+fn nodes_stand_where_they_may(rt: HostRuntime) -> Result<(), Fail> {
+    let alloc = rt.alloc();
+    for (kind, wanted) in [
+        (Kind::EmptyStatement, true),
+        (Kind::DebuggerStatement, true),
+        (Kind::ThisExpression, false),
+        (Kind::Super, false),
+    ] {
+        let node = Node {
+            kind,
+            start: 0,
+            end: 0,
+            fields: FieldList::from_vec(Vec::new(alloc)),
+        };
+        let root = program(alloc, vec![in alloc; Some(node)]?)?;
+        assert_eq!(rt; is_placed(alloc, &root), wanted);
+    }
     Ok(())
 }
