@@ -68,6 +68,8 @@ TREES = {
             module("ranked_otherwise", "let $ = 1; let ee = 2; ee; ee; $"),
             module("ranked_by_reserved", "let e = 1; let $ = 2; $; $; e"),
             module("ranked_readably", "let slot_0 = 1; let slot_1 = 2; slot_1; slot_1; slot_0"),
+            module("tied", "let alpha = 1; let beta = 2"),
+            module("tied_mangled", "let $ = 1; let ee = 2"),
             module("reserved_declared", "let e = 1; let x = 2; x"),
             module("reserved_declared_mangled", "let e = 1; let t = 2; t"),
             module("reserved_declared_renamed", "let t = 1; let n = 2; n"),
@@ -101,6 +103,8 @@ TREES = {
             script("recursion_by_one_name", "(function e(e) { return e(e) })"),
             module("recursive_declaration", "function f0(a) { return f0(a) }"),
             module("recursive_declaration_mangled", "function e(t) { return e(t) }"),
+            module("arrows", "let f = (a) => a; f((b) => { return f(b) })"),
+            module("arrows_mangled", "let e = (e) => e; e((t) => { return e(t) })"),
             script("default_of_function", "(function f(a = f) {})"),
             script("default_of_function_mangled", "(function e(t = e) {})"),
             script("default_of_function_by_one_name", "(function e(e = e) {})"),
@@ -110,6 +114,8 @@ TREES = {
             script("direct_eval_by_kept_name", 'function f(a) { eval("a"); function g(a) { return a } }'),
             module("indirect_eval", 'let f = eval; let x = 1; f("x")'),
             module("indirect_eval_mangled", 'let e = eval; let t = 1; e("x")'),
+            script("optional_eval", 'function f(a) { return eval?.("a") }'),
+            script("optional_eval_mangled", 'function f(e) { return eval?.("a") }'),
             script("with_statement", "function f(o, a) { with (o) { a; let b = 1; b } }"),
             script("with_statement_mangled", "function f(o, a) { with (o) { a; let e = 1; e } }"),
             script("with_statement_renamed", "function f(o, t) { with (o) { t; let e = 1; e } }"),
@@ -203,6 +209,7 @@ TREES = {
             module("initial_values", "let foo = function () {}; let Bar = class {}"),
             module("initial_values_for_functions", "let foo = function () {}; let e = class {}"),
             module("initial_values_for_classes", "let e = function () {}; let Bar = class {}"),
+            module("initial_arrow", "let foo = () => 1"),
             module("named_class_expression", "let x = class Foo {}"),
             module("named_class_expression_mangled", "let e = class Foo {}"),
             module("parameter_default", "function foo(a = function () {}) {}"),
@@ -213,6 +220,8 @@ TREES = {
             module("class_by_default_renamed", "var [e = class {}] = []"),
             module("function_in_rest", "var [...foo] = [function () {}]"),
             module("function_in_rest_mangled", "var [...e] = [function () {}]"),
+            module("default_in_rest", "var [...[a = function () {}]] = []"),
+            module("default_in_rest_mangled", "var [...[e = function () {}]] = []"),
             module("second_default", "var [a = 1, a = function () {}] = []"),
             module("second_default_mangled", "var [e = 1, e = function () {}] = []"),
             module("first_default", "var [a = function () {}, a = 1] = []"),
@@ -229,6 +238,7 @@ TREES = {
             module("redeclared", "let x; var x"),
             module("parameter_redeclared", "function f(a) { let a }"),
             module("catch_parameter_redeclared", "try {} catch (e) { let e }"),
+            module("block_function_redeclared", "{ function g() {} function g() {} }"),
             module("crossed", "{ let x; { var x } }"),
             module("catch_crossed", "try {} catch (e) { var e }"),
             module("using_crossed", "{ using x = a; var x }"),
@@ -246,6 +256,7 @@ TREES = {
             script("function_in_class", "class A { m() { { function g() {} } } }"),
             script("async_function_in_block", "{ async function g() {} }"),
             script("joined", "var x; var x; function x() {}"),
+            module("declared_inside", "let x; function f() { var x }"),
         ],
     ),
 }
@@ -255,7 +266,7 @@ TREES = {
 KINDS = ["var", "let", "const", "using", "await using"]
 OPERATORS = ["=", "+=", "-=", "*=", "/=", "%=", "**=", "<<=", ">>=", ">>>=", "|=", "^=", "&=", "||=", "&&=", "??="]
 METHODS = ["constructor", "method", "get", "set"]
-TOKEN = re.compile(r"""\s*(#?[A-Za-z_$][\w$]*|\d+|"[^"]*"|\.\.\.|\|\|=|\+=|::|[^\s])""")
+TOKEN = re.compile(r"""\s*(#?[A-Za-z_$][\w$]*|\d+|"[^"]*"|\.\.\.|\|\|=|\+=|=>|\?\.|::|[^\s])""")
 NAME = re.compile(r"[A-Za-z_$]")
 
 NULL, ON, OFF = "null", "on", "off"
@@ -352,10 +363,32 @@ class Parser:
                 value = ("member", value, self.key())
             elif self.eat("("):
                 value = ("call", value, self.listed(self.expression, ")"))
+            elif self.eat("?."):
+                self.need("(")
+                value = ("optional_call", value, self.listed(self.expression, ")"))
             else:
                 return value
 
+    def is_arrow(self):
+        """Whether the parentheses that begin here are an arrow function's."""
+        depth = ahead = 0
+        while True:
+            depth += {"(": 1, ")": -1}.get(self.peek(ahead), 0)
+            ahead += 1
+            if depth == 0:
+                return self.peek(ahead) == "=>"
+
+    def arrow(self):
+        self.need("(")
+        params = self.listed(self.element, ")")
+        self.need("=>")
+        if self.peek() == "{":
+            return "arrow_with_body", params, self.block()
+        return "arrow", params, self.expression()
+
     def primary(self):
+        if self.peek() == "(" and self.is_arrow():
+            return self.arrow()
         if self.eat("("):
             value = self.expression()
             self.need(")")

@@ -302,6 +302,22 @@ ranked_readably =
     ∷ statement (ident (codes "slot_0"))
     ∷ [])
 
+-- module: let alpha = 1; let beta = 2
+abbrev pub tied : Parts
+tied =
+    module_of
+    (declaration 1 (declarator (ident (codes "alpha")) (number 1 (codes "1")) ∷ [])
+    ∷ declaration 1 (declarator (ident (codes "beta")) (number 2 (codes "2")) ∷ [])
+    ∷ [])
+
+-- module: let $ = 1; let ee = 2
+abbrev pub tied_mangled : Parts
+tied_mangled =
+    module_of
+    (declaration 1 (declarator (ident (codes "$")) (number 1 (codes "1")) ∷ [])
+    ∷ declaration 1 (declarator (ident (codes "ee")) (number 2 (codes "2")) ∷ [])
+    ∷ [])
+
 -- module: let e = 1; let x = 2; x
 abbrev pub reserved_declared : Parts
 reserved_declared =

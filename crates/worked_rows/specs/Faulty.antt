@@ -23,6 +23,11 @@ abbrev pub catch_parameter_redeclared : Parts
 catch_parameter_redeclared =
     module_of (try_catch [] (ident (codes "e")) (declaration 1 (declarator (ident (codes "e")) null ∷ []) ∷ []) ∷ [])
 
+-- module: { function g() {} function g() {} }
+abbrev pub block_function_redeclared : Parts
+block_function_redeclared =
+    module_of (block (function (ident (codes "g")) [] [] ∷ function (ident (codes "g")) [] [] ∷ []) ∷ [])
+
 -- module: { let x; { var x } }
 abbrev pub crossed : Parts
 crossed =
@@ -126,4 +131,12 @@ joined =
     (declaration 0 (declarator (ident (codes "x")) null ∷ [])
     ∷ declaration 0 (declarator (ident (codes "x")) null ∷ [])
     ∷ function (ident (codes "x")) [] []
+    ∷ [])
+
+-- module: let x; function f() { var x }
+abbrev pub declared_inside : Parts
+declared_inside =
+    module_of
+    (declaration 1 (declarator (ident (codes "x")) null ∷ [])
+    ∷ function (ident (codes "f")) [] (declaration 0 (declarator (ident (codes "x")) null ∷ []) ∷ [])
     ∷ [])

@@ -1,7 +1,7 @@
 -- Functions, their parameters and own names, and what code can name while it runs. Made by tools/worked_rows.py.
 use Rattle.std.specs.Prelude.{[], ◌∷◌, codes}
 use Rattle.tree_nodes.specs.Tree.{Parts}
-use Rattle.worked_rows.specs.Makers.{assignment, block, call, declaration, declarator, default_at, function, function_expression, gives_back, ident, member, module_of, null, number, object, property, script, statement, string, this, with_object}
+use Rattle.worked_rows.specs.Makers.{arrow, arrow_with_body, assignment, block, call, declaration, declarator, default_at, function, function_expression, gives_back, ident, member, module_of, null, number, object, optional_call, property, script, statement, string, this, with_object}
 
 -- script: function f(a) { return a }
 abbrev pub declared_function : Parts
@@ -109,6 +109,22 @@ recursive_declaration_mangled =
     (function (ident (codes "e")) (ident (codes "t") ∷ []) (gives_back (call (ident (codes "e")) (ident (codes "t") ∷ [])) ∷ [])
     ∷ [])
 
+-- module: let f = (a) => a; f((b) => { return f(b) })
+abbrev pub arrows : Parts
+arrows =
+    module_of
+    (declaration 1 (declarator (ident (codes "f")) (arrow (ident (codes "a") ∷ []) (ident (codes "a"))) ∷ [])
+    ∷ statement (call (ident (codes "f")) (arrow_with_body (ident (codes "b") ∷ []) (gives_back (call (ident (codes "f")) (ident (codes "b") ∷ [])) ∷ []) ∷ []))
+    ∷ [])
+
+-- module: let e = (e) => e; e((t) => { return e(t) })
+abbrev pub arrows_mangled : Parts
+arrows_mangled =
+    module_of
+    (declaration 1 (declarator (ident (codes "e")) (arrow (ident (codes "e") ∷ []) (ident (codes "e"))) ∷ [])
+    ∷ statement (call (ident (codes "e")) (arrow_with_body (ident (codes "t") ∷ []) (gives_back (call (ident (codes "e")) (ident (codes "t") ∷ [])) ∷ []) ∷ []))
+    ∷ [])
+
 -- script: (function f(a = f) {})
 abbrev pub default_of_function : Parts
 default_of_function =
@@ -174,6 +190,20 @@ indirect_eval_mangled =
     (declaration 1 (declarator (ident (codes "e")) (ident (codes "eval")) ∷ [])
     ∷ declaration 1 (declarator (ident (codes "t")) (number 1 (codes "1")) ∷ [])
     ∷ statement (call (ident (codes "e")) (string (codes "x") (codes "\"x\"") ∷ []))
+    ∷ [])
+
+-- script: function f(a) { return eval?.("a") }
+abbrev pub optional_eval : Parts
+optional_eval =
+    script
+    (function (ident (codes "f")) (ident (codes "a") ∷ []) (gives_back (optional_call (ident (codes "eval")) (string (codes "a") (codes "\"a\"") ∷ [])) ∷ [])
+    ∷ [])
+
+-- script: function f(e) { return eval?.("a") }
+abbrev pub optional_eval_mangled : Parts
+optional_eval_mangled =
+    script
+    (function (ident (codes "f")) (ident (codes "e") ∷ []) (gives_back (optional_call (ident (codes "eval")) (string (codes "a") (codes "\"a\"") ∷ [])) ∷ [])
     ∷ [])
 
 -- script: function f(o, a) { with (o) { a; let b = 1; b } }

@@ -1,7 +1,7 @@
 -- Names that functions and classes take from their bindings. Made by tools/worked_rows.py.
 use Rattle.std.specs.Prelude.{[], ◌∷◌, codes}
 use Rattle.tree_nodes.specs.Tree.{Parts}
-use Rattle.worked_rows.specs.Makers.{array, array_pattern, assignment, class, class_expression, declaration, declarator, default_at, function, function_expression, ident, module_of, null, number, rest, script, statement}
+use Rattle.worked_rows.specs.Makers.{array, array_pattern, arrow, assignment, class, class_expression, declaration, declarator, default_at, function, function_expression, ident, module_of, null, number, rest, script, statement}
 
 -- module: function foo() {}
 abbrev pub named_function : Parts
@@ -64,6 +64,10 @@ initial_values_for_classes =
     (declaration 1 (declarator (ident (codes "e")) (function_expression null [] []) ∷ [])
     ∷ declaration 1 (declarator (ident (codes "Bar")) (class_expression null null []) ∷ [])
     ∷ [])
+
+-- module: let foo = () => 1
+abbrev pub initial_arrow : Parts
+initial_arrow = module_of (declaration 1 (declarator (ident (codes "foo")) (arrow [] (number 1 (codes "1"))) ∷ []) ∷ [])
 
 -- module: let x = class Foo {}
 abbrev pub named_class_expression : Parts
@@ -135,6 +139,20 @@ abbrev pub function_in_rest_mangled : Parts
 function_in_rest_mangled =
     module_of
     (declaration 0 (declarator (array_pattern (rest (ident (codes "e")) ∷ [])) (array (function_expression null [] [] ∷ [])) ∷ [])
+    ∷ [])
+
+-- module: var [...[a = function () {}]] = []
+abbrev pub default_in_rest : Parts
+default_in_rest =
+    module_of
+    (declaration 0 (declarator (array_pattern (rest (array_pattern (default_at (ident (codes "a")) (function_expression null [] []) ∷ [])) ∷ [])) (array []) ∷ [])
+    ∷ [])
+
+-- module: var [...[e = function () {}]] = []
+abbrev pub default_in_rest_mangled : Parts
+default_in_rest_mangled =
+    module_of
+    (declaration 0 (declarator (array_pattern (rest (array_pattern (default_at (ident (codes "e")) (function_expression null [] []) ∷ [])) ∷ [])) (array []) ∷ [])
     ∷ [])
 
 -- module: var [a = 1, a = function () {}] = []

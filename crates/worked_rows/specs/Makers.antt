@@ -2,7 +2,7 @@
 use Rattle.std.specs.Prelude.{ℕ, true, false, List, [], ◌∷◌}
 use Rattle.tree_nodes.specs.Tree.{Parts, Text, atom, child, done, empty, flag, many, text, units, whole, word as word_of}
 use Rattle.tree_nodes.specs.declared.kind.Kind.{Kind}
-use Rattle.tree_nodes.specs.declared.kind.Kind.TheVariants.{ArrayExpression, ArrayPattern, AssignmentExpression, AssignmentPattern, BlockStatement, BreakStatement, CallExpression, CatchClause, ClassBody, ClassDeclaration, ClassExpression, ExportNamedDeclaration, ExportSpecifier, ExpressionStatement, FunctionDeclaration, FunctionExpression, Identifier, ImportDeclaration, ImportSpecifier, LabeledStatement, Literal, MemberExpression, MethodDefinition, ObjectExpression, ObjectPattern, PrivateIdentifier, Program, Property, PropertyDefinition, RestElement, ReturnStatement, SwitchCase, SwitchStatement, ThisExpression, TryStatement, VariableDeclaration, VariableDeclarator, WithStatement}
+use Rattle.tree_nodes.specs.declared.kind.Kind.TheVariants.{ArrayExpression, ArrayPattern, ArrowFunctionExpression, AssignmentExpression, AssignmentPattern, BlockStatement, BreakStatement, CallExpression, CatchClause, ChainExpression, ClassBody, ClassDeclaration, ClassExpression, ExportNamedDeclaration, ExportSpecifier, ExpressionStatement, FunctionDeclaration, FunctionExpression, Identifier, ImportDeclaration, ImportSpecifier, LabeledStatement, Literal, MemberExpression, MethodDefinition, ObjectExpression, ObjectPattern, PrivateIdentifier, Program, Property, PropertyDefinition, RestElement, ReturnStatement, SwitchCase, SwitchStatement, ThisExpression, TryStatement, VariableDeclaration, VariableDeclarator, WithStatement}
 
 -- a field, or an item of a list: it puts itself before the fields or items that follow
 abbrev pub Piece : Type 0
@@ -80,6 +80,12 @@ async_function name params statements = node FunctionDeclaration (name ∷ off �
 abbrev pub function_expression : Piece → List Piece → List Piece → Piece
 function_expression name params statements = node FunctionExpression (name ∷ off ∷ off ∷ list params ∷ body statements ∷ off ∷ [])
 
+abbrev pub arrow : List Piece → Piece → Piece
+arrow params value = node ArrowFunctionExpression (on ∷ off ∷ list params ∷ value ∷ [])
+
+abbrev pub arrow_with_body : List Piece → List Piece → Piece
+arrow_with_body params statements = node ArrowFunctionExpression (off ∷ off ∷ list params ∷ body statements ∷ [])
+
 abbrev pub members : List Piece → Piece
 members items = node ClassBody (list items ∷ [])
 
@@ -109,6 +115,9 @@ array elements = node ArrayExpression (list elements ∷ [])
 
 abbrev pub call : Piece → List Piece → Piece
 call callee arguments = node CallExpression (callee ∷ list arguments ∷ off ∷ [])
+
+abbrev pub optional_call : Piece → List Piece → Piece
+optional_call callee arguments = node ChainExpression (node CallExpression (callee ∷ list arguments ∷ on ∷ []) ∷ [])
 
 abbrev pub member : Piece → Piece → Piece
 member of property = node MemberExpression (of ∷ property ∷ off ∷ off ∷ [])

@@ -65,7 +65,7 @@ pub fn shorthand_ends()
 
 /// The binding with more references gets the shorter name, here with all names of one character but
 /// `$` reserved. The names the other way round make a mangled tree too, of a higher cost. A reserved
-/// name is refused.
+/// name is refused. Of two bindings with as many references the earlier one comes first.
 pub fn references_rank()
     ensures answer { IsAnswer (reserving all_short_but_dollar) row.ranked row.ranked_mangled }
     ensures cheapest { cost (reserving all_short_but_dollar row.ranked) row.ranked row.ranked_mangled ≡ 4 }
@@ -73,6 +73,7 @@ pub fn references_rank()
     ensures dearer { cost (reserving all_short_but_dollar row.ranked) row.ranked row.ranked_otherwise ≡ 5 }
     ensures reserved { IsRefusedBy (Free ∷ []) (reserving all_short_but_dollar) row.ranked row.ranked_by_reserved }
     ensures readable { IsAnswer readably row.ranked row.ranked_readably }
+    ensures tied { IsAnswer (reserving all_short_but_dollar) row.tied row.tied_mangled }
 {}
 
 /// A binding with a reserved name keeps it, and no other binding gets it.

@@ -12,6 +12,7 @@ pub fn scope_faults()
     ensures redeclared { IsFaulty Redeclaration row.redeclared }
     ensures parameter_redeclared { IsFaulty Redeclaration row.parameter_redeclared }
     ensures catch_redeclared { IsFaulty Redeclaration row.catch_parameter_redeclared }
+    ensures block_function_redeclared { IsFaulty Redeclaration row.block_function_redeclared }
     ensures crossed { IsFaulty Crossing row.crossed }
     ensures catch_crossed { IsFaulty Crossing row.catch_crossed }
     ensures using_crossed { IsFaulty Crossing row.using_crossed }
@@ -25,7 +26,8 @@ pub fn scope_faults()
 
 /// A function in a block is sound in a module, in a script or function that asks for strict code, in a
 /// class, and where it is async; a parameter may be declared again in the body and named by a later default; `var`s and
-/// functions of one scope may have one name.
+/// functions of one scope may have one name; a `var` may have the name of what is declared outside its
+/// function.
 pub fn no_faults()
     ensures module { IsAnswer defaults row.strict_function row.strict_function_mangled }
     ensures directed { IsTrue (is_valid row.directed_function) }
@@ -34,4 +36,5 @@ pub fn no_faults()
     ensures async_function { IsTrue (is_valid row.async_function_in_block) }
     ensures parameter { IsTrue (is_valid row.parameter_reached) }
     ensures joined { IsTrue (is_valid row.joined) }
+    ensures inside { IsTrue (is_valid row.declared_inside) }
 {}

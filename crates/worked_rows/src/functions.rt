@@ -22,6 +22,11 @@ pub fn shadowed_function_name()
     ensures by_let { IsAnswer defaults row.shadowed_by_let row.shadowed_by_let_mangled }
 {}
 
+/// An arrow function has a scope of its own, with a body and without.
+pub fn arrows_declare()
+    ensures { IsAnswer defaults row.arrows row.arrows_mangled }
+{}
+
 /// A function's own name and its parameters are in use together, whether or not it calls itself.
 pub fn function_name_keeps_apart()
     ensures unused { IsAnswer defaults row.unshadowed_name row.unshadowed_name_mangled }
@@ -37,12 +42,13 @@ pub fn default_names_its_function()
 {}
 
 /// What a direct eval can name stays, and is never given to another binding. `eval` under another name
-/// sees none of them.
+/// sees none of them, nor does an optional call of it.
 pub fn direct_eval_keeps()
     ensures answer { IsAnswer defaults row.direct_eval row.direct_eval_mangled }
     ensures renamed { IsRefusedBy (Stay ∷ []) defaults row.direct_eval row.direct_eval_renamed }
     ensures kept_name { IsRefusedBy (Free ∷ []) defaults row.direct_eval row.direct_eval_by_kept_name }
     ensures indirect { IsAnswer defaults row.indirect_eval row.indirect_eval_mangled }
+    ensures optional { IsAnswer defaults row.optional_eval row.optional_eval_mangled }
 {}
 
 /// What a `with` statement's object may have as a property stays; what is declared in its body

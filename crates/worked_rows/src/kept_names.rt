@@ -23,6 +23,7 @@ pub fn names_that_functions_need()
 pub fn names_of_initial_values()
     ensures function { names_kept (keeping_functions row.initial_values) row.initial_values ≡ codes "foo" ∷ [] }
     ensures function_answer { IsAnswer keeping_functions row.initial_values row.initial_values_for_functions }
+    ensures arrow { IsAnswer keeping_functions row.initial_arrow row.initial_arrow }
     ensures class { names_kept (keeping_classes row.initial_values) row.initial_values ≡ codes "Bar" ∷ [] }
     ensures class_answer { IsAnswer keeping_classes row.initial_values row.initial_values_for_classes }
     ensures own { names_kept (keeping_classes row.named_class_expression) row.named_class_expression ≡ codes "Foo" ∷ [] }
@@ -30,8 +31,8 @@ pub fn names_of_initial_values()
 {}
 
 /// A class that is the default of a pattern's name has that name, and so has a function that is the
-/// default in a pattern which is assigned to. A function in what is left, by `...`, hasn't, and a
-/// parameter's default isn't looked at.
+/// default in a pattern which is assigned to. A function in what is left, by `...`, hasn't, nor has
+/// a default there, and a parameter's default isn't looked at.
 pub fn names_that_patterns_give()
     ensures default_class { names_kept (keeping_classes row.class_by_default) row.class_by_default ≡ codes "Foo" ∷ [] }
     ensures default_answer { IsAnswer keeping_classes row.class_by_default row.class_by_default }
@@ -41,6 +42,7 @@ pub fn names_that_patterns_give()
     ensures target_renamed { IsRefusedBy (Stay ∷ []) keeping_functions row.target_default row.target_default_renamed }
     ensures rest { names_kept (keeping_functions row.function_in_rest) row.function_in_rest ≡ [] }
     ensures rest_answer { IsAnswer keeping_functions row.function_in_rest row.function_in_rest_mangled }
+    ensures in_rest { IsAnswer keeping_functions row.default_in_rest row.default_in_rest_mangled }
     ensures parameter { names_kept (keeping_functions row.parameter_default) row.parameter_default ≡ codes "foo" ∷ [] }
     ensures parameter_answer { IsAnswer keeping_functions row.parameter_default row.parameter_default_mangled }
 {}
