@@ -2,9 +2,12 @@ pub mod Refusals
 pub mod Escapes
 pub mod Units
 pub mod Paths
+pub mod Indents
 pub mod Closes
 pub mod Growth
 pub mod StructUnderWay
+pub mod FieldsUnderWay
+pub mod Spans
 pub mod ListUnderWay
 pub mod Loops
 pub mod Envelopes

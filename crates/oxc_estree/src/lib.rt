@@ -10,18 +10,27 @@ mod pieces;
 mod sequences;
 mod serializer;
 mod strings;
+#[cfg(test)]
+mod struct_tests;
 mod structs;
 #[cfg(test)]
 mod tests;
 mod trace_path;
+#[cfg(test)]
+mod trait_tests;
 mod values;
 
-pub use config::{Config, ConfigFixes};
-pub use estree_serializer::ESTreeSerializer;
-pub use formatter::{CompactFormatter, Formatter};
+pub use config::{Config, ConfigFixes, ConfigNoFixes};
+pub use estree_serializer::{
+    CompactFixesSerializer, CompactSerializer, ESTreeSerializer, PrettyFixesSerializer,
+    PrettySerializer,
+};
+pub use formatter::{CompactFormatter, Formatter, PrettyFormatter};
 pub use sequences::{ESTreeSequenceSerializer, SequenceSerializer};
 pub use serializer::{ESTree, Serializer};
-pub use structs::{ESTreeStructSerializer, StructSerializer};
+pub use structs::{
+    ESTreeSpan, ESTreeStructSerializer, Fields, FlatStructSerializer, StructSerializer,
+};
 pub use trace_path::TracePathPart;
 pub use values::{JsonSafeString, JsonSlice, JsonStr};
 
