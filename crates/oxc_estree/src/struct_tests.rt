@@ -1,6 +1,6 @@
 //! What structs look like, by the flags and in both layouts.
 
-ghost use Rattle.std.specs.Prelude.{◌++◌, codes};
+ghost use Rattle.std.specs.Prelude.{◌++◌, codes, false};
 ghost use Rattle.json_text.specs.Json.{string, truth};
 ghost use Rattle.json_text.specs.Units.{units_of};
 ghost use Rattle.oxc_estree.specs.Open.{js_field, object_of, span_fields, ts_field};
@@ -87,37 +87,36 @@ const NAMED: Named<'static> = Named {
 
 #[test]
 fn fields_by_flags(rt: HostRuntime) -> Result<(), Fail> {
-    let alloc = rt.alloc();
-    assert_eq!(rt;
-        compact(alloc, false, false, &NAMED)?.as_str(),
-        "{\"start\":1,\"end\":5,\"raw\":\"x\"}"
-    );
-    assert_eq!(rt;
-        compact(alloc, false, true, &NAMED)?.as_str(),
-        "{\"start\":1,\"end\":5,\"range\":[1,5],\"raw\":\"x\"}"
-    );
-    assert_eq!(rt;
-        compact(alloc, true, false, &NAMED)?.as_str(),
-        "{\"start\":1,\"end\":5,\"optional\":false}"
-    );
-    assert_eq!(rt;
-        compact(alloc, true, true, &NAMED)?.as_str(),
-        "{\"start\":1,\"end\":5,\"range\":[1,5],\"optional\":false}"
-    );
+    let rows = [
+        (false, false, "{\"start\":1,\"end\":5,\"raw\":\"x\"}"),
+        (
+            false,
+            true,
+            "{\"start\":1,\"end\":5,\"range\":[1,5],\"raw\":\"x\"}",
+        ),
+        (true, false, "{\"start\":1,\"end\":5,\"optional\":false}"),
+        (
+            true,
+            true,
+            "{\"start\":1,\"end\":5,\"range\":[1,5],\"optional\":false}",
+        ),
+    ];
+    for (ts, ranges, want) in rows {
+        let text = compact(rt.alloc(), ts, ranges, &NAMED)?;
+        assert_eq!(rt; text.as_str(), want);
+    }
     Ok(())
 }
 
 #[test]
 fn pretty_texts(rt: HostRuntime) -> Result<(), Fail> {
-    let alloc = rt.alloc();
-    let none: [Option<bool>; 0] = [];
-    assert_eq!(rt; pretty(alloc, &JsonSlice(&none))?.as_str(), "[]");
+    let lists = [JsonSlice(&[]), JsonSlice(&[None, Some(true)])];
     assert_eq!(rt;
-        pretty(alloc, &JsonSlice(&[JsonSlice(&none), JsonSlice(&[None, Some(true)])]))?.as_str(),
+        pretty(rt.alloc(), &JsonSlice(&lists))?.as_str(),
         "[\n  [],\n  [\n    null,\n    true\n  ]\n]"
     );
     assert_eq!(rt;
-        pretty(alloc, &NAMED)?.as_str(),
+        pretty(rt.alloc(), &NAMED)?.as_str(),
         "{\n  \"start\": 1,\n  \"end\": 5,\n  \"range\": [\n    1,\n    5\n  ],\n  \"raw\": \"x\"\n}"
     );
     Ok(())
@@ -134,12 +133,16 @@ fn serializers_by_alias(rt: HostRuntime) -> Result<(), Fail> {
     assert_eq!(rt; serializer.into_string().as_str(), "[\n  true\n]");
     let serializer = CompactFixesSerializer::new(alloc, false, false)?;
     assert_eq!(rt;
-        serializer.serialize_with_fixes(&JsonSlice(&[true]))?.as_str(),
+        serializer
+            .serialize_with_fixes(&JsonSlice(&[true]))?
+            .as_str(),
         "{\"node\":\n[true]\n,\"fixes\":[]}"
     );
     let serializer = PrettyFixesSerializer::new(alloc, false, false)?;
     assert_eq!(rt;
-        serializer.serialize_with_fixes(&JsonSlice(&[true]))?.as_str(),
+        serializer
+            .serialize_with_fixes(&JsonSlice(&[true]))?
+            .as_str(),
         "{\"node\":\n[\n  true\n]\n,\"fixes\":[]}"
     );
     Ok(())

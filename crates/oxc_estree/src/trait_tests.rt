@@ -5,6 +5,7 @@ ghost use Rattle.std.specs.Prelude.{false, refl, true, []};
 ghost use Rattle.json_text.specs.Layout.{compact};
 
 use super::*;
+use crate::pieces::print_key;
 use oxc_data_structures::code_buffer::CodeBuffer;
 use std::alloc::AllocError;
 use std::test::Fail;
@@ -55,12 +56,6 @@ struct Counting {
     lines: u64,
 }
 
-impl Counting {
-    fn count(&mut self) {
-        self.lines = self.lines.saturating_add(1);
-    }
-}
-
 impl Formatter for Counting {
     ghost layout = { λ f. ⟦<PrettyFormatter as Formatter>⟧.layout f.inner };
 
@@ -78,12 +73,12 @@ impl Formatter for Counting {
     }
 
     fn before_first_element(&mut self, buffer: &mut CodeBuffer) -> Result<(), AllocError> {
-        self.count();
+        self.lines = self.lines.saturating_add(1);
         self.inner.before_first_element(buffer)
     }
 
     fn before_later_element(&mut self, buffer: &mut CodeBuffer) -> Result<(), AllocError> {
-        self.count();
+        self.lines = self.lines.saturating_add(1);
         self.inner.before_later_element(buffer)
     }
 
@@ -92,7 +87,7 @@ impl Formatter for Counting {
     }
 
     fn after_last_element(&mut self, buffer: &mut CodeBuffer) -> Result<(), AllocError> {
-        self.count();
+        self.lines = self.lines.saturating_add(1);
         self.inner.after_last_element(buffer)
     }
 }
@@ -151,9 +146,12 @@ impl Serializer for Bare {
     }
 
     fn begin_field(&mut self, key: &'static str, first: bool) -> Result<(), AllocError> {
-        self.begin_element(if first { 0 } else { 1 })?;
-        JsonStr(key).serialize(self)?;
-        self.buffer.print_str(":")
+        if first {
+            print_key(&mut CompactFormatter, &mut self.buffer, key)
+        } else {
+            self.buffer.print_str(",")?;
+            print_key(&mut CompactFormatter, &mut self.buffer, key)
+        }
     }
 
     fn end_field(&mut self) {}
@@ -270,11 +268,15 @@ fn own_config_and_formatter(rt: HostRuntime) -> Result<(), Fail> {
     Ok(())
 }
 
-#[test]
-fn own_serializers(rt: HostRuntime) -> Result<(), Fail> {
-    let mut serializer = Bare {
+fn bare_serializer(rt: &HostRuntime) -> Bare {
+    Bare {
         buffer: CodeBuffer::new(rt.alloc()),
-    };
+    }
+}
+
+#[test]
+fn own_struct_serializer(rt: HostRuntime) -> Result<(), Fail> {
+    let mut serializer = bare_serializer(&rt);
     let mut state = ESTreeStructSerializer::new(&mut serializer)?;
     let mut counting = CountingStruct {
         inner: &mut state,
@@ -286,18 +288,23 @@ fn own_serializers(rt: HostRuntime) -> Result<(), Fail> {
     assert_eq!(rt; counting.fields, 1);
     counting.end()?;
     state.end()?;
+    assert_eq!(rt; serializer.buffer.as_str(), "{\"one\":[1,2],\"three\":3}");
+    Ok(())
+}
+
+#[test]
+fn own_sequence_serializer(rt: HostRuntime) -> Result<(), Fail> {
+    let mut serializer = bare_serializer(&rt);
     let mut list = ESTreeSequenceSerializer::new(&mut serializer)?;
     let mut counting = CountingList {
         inner: &mut list,
         elements: 0,
     };
     counting.serialize_element(&())?;
-    assert_eq!(rt; counting.elements, 1);
+    counting.serialize_element(&true)?;
+    assert_eq!(rt; counting.elements, 2);
     counting.end()?;
     list.end()?;
-    assert_eq!(rt;
-        serializer.buffer.as_str(),
-        "{\"one\":[1,2],\"three\":3}[null]"
-    );
+    assert_eq!(rt; serializer.buffer.as_str(), "[null,true]");
     Ok(())
 }
