@@ -3,10 +3,13 @@
 
 ghost use Rattle.oxc_estree.specs.Envelope.{EnvelopeReadsAlone};
 
+mod concat;
 mod config;
 mod estree_serializer;
 mod formatter;
+mod integers;
 mod pieces;
+mod scan;
 mod sequences;
 mod serializer;
 mod strings;
@@ -16,9 +19,11 @@ mod tests;
 mod trace_path;
 mod values;
 
+pub use concat::{Concat2, Concat3, ConcatElement};
 pub use config::{Config, ConfigFixes};
 pub use estree_serializer::ESTreeSerializer;
 pub use formatter::{CompactFormatter, Formatter};
+pub use scan::get_escapes_mask;
 pub use sequences::{ESTreeSequenceSerializer, SequenceSerializer};
 pub use serializer::{ESTree, Serializer};
 pub use structs::{ESTreeStructSerializer, StructSerializer};

@@ -6,7 +6,7 @@ use Rattle.std.specs.Str.{chars}
 use Rattle.json_text.specs.Units.{units_of}
 use Rattle.oxc_estree.proofs.Refusals.{at_err, refused_after, refused_at_once, refused_within, all_printed}
 use Rattle.oxc_estree.proofs.Units.{units_text-chars, quoted_at, quoted_end}
-use Rattle.oxc_estree.proofs.strings.print_quoted.Goals as goal
+use Rattle.oxc_estree.proofs.strings.print_quoted_by_chars.Goals as goal
 
 pub returns-in_err-print_text_char-clause-refused : goal.returns-in_err-print_text_char-clause-refused
 returns-in_err-print_text_char-clause-refused c =
