@@ -14,3 +14,4 @@ pub mod EscapeMarks
 pub mod PlainRuns
 pub mod ByteTexts
 pub mod TextRuns
+pub mod CodePointTexts

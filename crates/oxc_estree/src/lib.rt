@@ -3,6 +3,7 @@
 
 ghost use Rattle.oxc_estree.specs.Envelope.{EnvelopeReadsAlone};
 
+mod code_points;
 mod concat;
 mod config;
 mod estree_serializer;
@@ -19,6 +20,7 @@ mod tests;
 mod trace_path;
 mod values;
 
+pub use code_points::{CodePoints, LoneSurrogatesString};
 pub use concat::{Concat2, Concat3, ConcatElement};
 pub use config::{Config, ConfigFixes};
 pub use estree_serializer::ESTreeSerializer;

@@ -68,7 +68,7 @@ fn print_run(buffer: &mut CodeBuffer, text: &str, start: usize) -> Result<usize,
     Ok(end + 1)
 }
 
-fn print_text_char(buffer: &mut CodeBuffer, c: char) -> Result<(), AllocError>
+pub(crate) fn print_text_char(buffer: &mut CodeBuffer, c: char) -> Result<(), AllocError>
     ensures ok { OnOk result (Appends buffer.old buffer.new (char_text c)) }
     ensures refused { OnErr result (IsPartlyPrinted buffer.old buffer.new (char_text c)) }
 {
@@ -95,7 +95,7 @@ fn print_short(buffer: &mut CodeBuffer, byte: u8) -> Result<(), AllocError>
 }
 
 /// Appends a code unit as `\u` and four hexadecimal digits in lower case.
-fn print_unit_escape(buffer: &mut CodeBuffer, unit: u32) -> Result<(), AllocError>
+pub(crate) fn print_unit_escape(buffer: &mut CodeBuffer, unit: u32) -> Result<(), AllocError>
     requires { unit < 65536 }
     ensures ok { OnOk result (Appends buffer.old buffer.new (unit_escape unit)) }
     ensures refused { OnErr result (IsPartlyPrinted buffer.old buffer.new (unit_escape unit)) }
