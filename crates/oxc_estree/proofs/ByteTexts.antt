@@ -1,7 +1,7 @@
 -- The text of a string is the text of its bytes, each escaped where it has to be.
-use Rattle.std.proofs.Common.{◌≡◌, ℕ, suc, ◌+◌, ◌-◌, ◌*◌, ◌/◌, ◌%◌, ◌<◌, ◌≤◌, ◌⊎◌, ⊎_elim, List, [], ◌∷◌, ◌++◌, Bool, true, false, cond, not, flat_map, take, drop, length, get_or, ap, ◌∙◌, ap₂, sym, refl, arith, None, append-nil, append_assoc}
-use Rattle.std.proofs.Math.Utf8.{scalar, scalars}
-use Rattle.std.proofs.lemmas.Bool.{and_parts, cases_lt}
+use Rattle.std.proofs.Common.{◌≡◌, ℕ, suc, ◌+◌, ◌<◌, ◌≤◌, ⊎_elim, List, [], ◌∷◌, ◌++◌, Bool, true, false, cond, flat_map, take, length, get_or, ap, ◌∙◌, ap₂, sym, refl, arith, None, append-nil}
+use Rattle.std.proofs.Math.Utf8.{scalars}
+use Rattle.std.proofs.lemmas.Bool.{cases_lt}
 use Rattle.std.proofs.lemmas.Bool.Decides.{nat_tests}
 use Rattle.std.proofs.lemmas.List.Concat.{flat_map-append}
 use Rattle.std.proofs.lemmas.Str.{chars-encodes, encode_ascii}
@@ -37,6 +37,7 @@ char_bytes c = ⊎_elim low high (cases_lt c 128)
   where
     low : c < 128 → flat_map byte_text (encode c) ≡ char_text c
     low h = ap (flat_map byte_text) (encode_ascii c h) ∙ append-nil (byte_text c) ∙ low_char c h
+
     high : 128 ≤ c → flat_map byte_text (encode c) ≡ char_text c
     high h = encoded_bytes c h ∙ sym (high_char c h)
 

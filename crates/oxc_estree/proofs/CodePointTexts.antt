@@ -1,5 +1,5 @@
 -- The text of code points is that of their code units.
-use Rattle.std.proofs.Common.{◌≡◌, ℕ, suc, ◌+◌, ◌-◌, ◌*◌, ◌/◌, ◌%◌, ◌<◌, ◌≤◌, ◌⊎◌, ⊎_elim, inl, inr, List, [], ◌∷◌, ◌++◌, Bool, true, false, cond, nat_le, nat_lt, Option, Some, None, encode_utf8, flat_map, length, get_or, drop, drop-cons, drop_of_length-le, ap, ◌∙◌, sym, refl, arith, append-nil, append_assoc, IsTrue}
+use Rattle.std.proofs.Common.{◌≡◌, ℕ, suc, ◌+◌, ◌-◌, ◌*◌, ◌/◌, ◌%◌, ◌<◌, ◌≤◌, ⊎_elim, inr, List, [], ◌∷◌, ◌++◌, Bool, true, false, cond, nat_le, nat_lt, Option, Some, None, encode_utf8, length, get_or, drop, drop-cons, drop_of_length-le, ap, ◌∙◌, sym, refl, arith, append-nil, append_assoc, IsTrue}
 use Rattle.std.proofs.lemmas.Bool.{cases_lt}
 use Rattle.std.proofs.lemmas.Bool.Decides.{nat_tests}
 use Rattle.std.specs.Char.Escape.{encode_utf16}
@@ -7,7 +7,7 @@ use Rattle.std.proofs.lemmas.Iterator.{YieldsList}
 use Rattle.std.proofs.lemmas.Iterator.Consumers.{YieldsList-at}
 use Rattle.std.specs.Iterator.{Count}
 use Rattle.std.specs.Option.{ForSome}
-use Rattle.json_text.specs.Strings.{char_text, flush, is_lead, is_trail, joined, quoted_units, trail_text, unit_text, units_text, waits}
+use Rattle.json_text.specs.Strings.{char_text, flush, is_lead, is_trail, joined, quoted_units, unit_text, units_text, waits}
 use Rattle.oxc_estree.specs.CodePoints.{Gives, point_char, point_text, point_units, points_units}
 use Rattle.oxc_estree.proofs.Units.{high_text, high_units, lead, low_units, no_lead, no_trail, trail}
 

@@ -1,5 +1,5 @@
 -- Elements on the way into a list that stands open: what was written, and which are left.
-use Rattle.std.proofs.Common.{◌≡◌, List, [], ◌∷◌, ◌++◌, ap, ◌∙◌, refl, append-nil}
+use Rattle.std.proofs.Common.{◌≡◌, List, [], ◌∷◌, ap, ◌∙◌, refl, append-nil}
 use Rattle.oxc_estree.specs.Out.{Out, Flags, flags, Meaning}
 use Rattle.oxc_estree.specs.Open.{OpenList, add_element, add_elements}
 use Rattle.oxc_estree.specs.Refused.{IsCutShort}

@@ -1,5 +1,5 @@
 -- Strings that are given as code points, surrogates among them, and the iterators that give them.
-use Rattle.std.specs.Prelude.{ℕ, List, [], ◌∷◌, ◌++◌, Bool, ◌||◌, cond, nat_le, nat_lt, flat_map, Option}
+use Rattle.std.specs.Prelude.{ℕ, List, [], ◌∷◌, ◌++◌, ◌||◌, cond, nat_le, nat_lt, flat_map, Option}
 use Rattle.std.specs.Char.Escape.{encode_utf16}
 use Rattle.std.specs.Iterator.{AlwaysYields, Count, IsFinite}
 use Rattle.json_text.specs.Strings.{char_text, flush, is_lead, is_trail, trail_text}

@@ -53,6 +53,7 @@ impl<'a> CodePoints for Copied<Iter<'a, u32>> {
 /// A surrogate that stands alone is written as an escape, since no text in UTF-8 has it; a lead
 /// surrogate with the trail surrogate after it is written as the character that they are. A number
 /// above 10FFFF is written as the replacement character.
+#[derive(Drop)]
 pub struct LoneSurrogatesString<I>(pub I);
 
 impl<I: CodePoints> ESTree for LoneSurrogatesString<I> {
@@ -64,7 +65,10 @@ impl<I: CodePoints> ESTree for LoneSurrogatesString<I> {
     }
 }
 
-fn print_code_points<I: CodePoints>(buffer: &mut CodeBuffer, code_points: I) -> Result<(), AllocError>
+fn print_code_points<I: CodePoints>(
+    buffer: &mut CodeBuffer,
+    code_points: I,
+) -> Result<(), AllocError>
     ensures ok { OnOk result (Appends buffer.old buffer.new
         (quoted_units (points_units (I.code_points code_points)))) }
     ensures refused { OnErr result (IsPartlyPrinted buffer.old buffer.new
@@ -144,8 +148,9 @@ fn join(lead: u32, trail: u32) -> char
     requires trail { IsTrue (is_trail trail) }
     ensures { result ≡ joined lead trail }
 {
-    char::from_u32((lead - 0xd800) * 0x400 + (trail - 0xdc00) + 0x1_0000)
-        .unwrap_or(char::REPLACEMENT_CHARACTER)
+    char::from_u32((lead - 0xd800) * 0x400 + (trail - 0xdc00) + 0x1_0000).unwrap_or(
+        char::REPLACEMENT_CHARACTER,
+    )
 }
 
 fn char_of(code_point: u32) -> char

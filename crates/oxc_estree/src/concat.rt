@@ -71,8 +71,7 @@ impl<'t, C1: ConcatElement, C2: ConcatElement> ESTree for Concat2<'t, C1, C2> {
 pub struct Concat3<'t, C1, C2, C3>(pub &'t C1, pub &'t C2, pub &'t C3);
 
 impl<'t, C1: ConcatElement, C2: ConcatElement, C3: ConcatElement> ESTree
-    for Concat3<'t, C1, C2, C3>
-{
+    for Concat3<'t, C1, C2, C3> {
     ghost meaning = { λ v f.
         list_of (C1.elements v.0.now f ++ (C2.elements v.1.now f ++ C3.elements v.2.now f)) };
 

@@ -1,18 +1,28 @@
 //! Integers as JSON numbers.
 
-ghost use Rattle.std.specs.Prelude.{◌≡◌, pos};
+ghost use Rattle.std.specs.Prelude.{◌≡◌, OnErr, OnOk, pos};
 ghost use Rattle.json_text.specs.Json.{whole};
+ghost use Rattle.oxc_data_structures.specs.CodeBuffer.{Appends, IsUnchanged};
 ghost use Rattle.oxc_estree.specs.Out.{plain};
 
 use crate::{ESTree, Serializer};
+use itoa::Integer;
+use oxc_data_structures::code_buffer::CodeBuffer;
 use std::alloc::AllocError;
+
+fn print_integer<I: Integer>(buffer: &mut CodeBuffer, n: I) -> Result<(), AllocError>
+    ensures ok { OnOk result (Appends buffer.old buffer.new (I.text n)) }
+    ensures refused { OnErr result (IsUnchanged buffer.old buffer.new) }
+{
+    let mut digits = itoa::Buffer::new();
+    buffer.print_str(digits.format(n))
+}
 
 impl ESTree for u8 {
     ghost meaning = { λ n _. plain (whole (pos n)) };
 
     fn serialize<S: Serializer>(&self, serializer: &mut S) -> Result<(), AllocError> {
-        let mut buffer = itoa::Buffer::new();
-        serializer.buffer_mut().print_str(buffer.format(*self))
+        print_integer::<u8>(serializer.buffer_mut(), *self)
     }
 }
 
@@ -20,8 +30,7 @@ impl ESTree for u16 {
     ghost meaning = { λ n _. plain (whole (pos n)) };
 
     fn serialize<S: Serializer>(&self, serializer: &mut S) -> Result<(), AllocError> {
-        let mut buffer = itoa::Buffer::new();
-        serializer.buffer_mut().print_str(buffer.format(*self))
+        print_integer::<u16>(serializer.buffer_mut(), *self)
     }
 }
 
@@ -29,8 +38,7 @@ impl ESTree for u32 {
     ghost meaning = { λ n _. plain (whole (pos n)) };
 
     fn serialize<S: Serializer>(&self, serializer: &mut S) -> Result<(), AllocError> {
-        let mut buffer = itoa::Buffer::new();
-        serializer.buffer_mut().print_str(buffer.format(*self))
+        print_integer::<u32>(serializer.buffer_mut(), *self)
     }
 }
 
@@ -38,8 +46,7 @@ impl ESTree for u64 {
     ghost meaning = { λ n _. plain (whole (pos n)) };
 
     fn serialize<S: Serializer>(&self, serializer: &mut S) -> Result<(), AllocError> {
-        let mut buffer = itoa::Buffer::new();
-        serializer.buffer_mut().print_str(buffer.format(*self))
+        print_integer::<u64>(serializer.buffer_mut(), *self)
     }
 }
 
@@ -47,8 +54,7 @@ impl ESTree for u128 {
     ghost meaning = { λ n _. plain (whole (pos n)) };
 
     fn serialize<S: Serializer>(&self, serializer: &mut S) -> Result<(), AllocError> {
-        let mut buffer = itoa::Buffer::new();
-        serializer.buffer_mut().print_str(buffer.format(*self))
+        print_integer::<u128>(serializer.buffer_mut(), *self)
     }
 }
 
@@ -56,8 +62,7 @@ impl ESTree for usize {
     ghost meaning = { λ n _. plain (whole (pos n)) };
 
     fn serialize<S: Serializer>(&self, serializer: &mut S) -> Result<(), AllocError> {
-        let mut buffer = itoa::Buffer::new();
-        serializer.buffer_mut().print_str(buffer.format(*self))
+        print_integer::<usize>(serializer.buffer_mut(), *self)
     }
 }
 
@@ -65,8 +70,7 @@ impl ESTree for i8 {
     ghost meaning = { λ n _. plain (whole n) };
 
     fn serialize<S: Serializer>(&self, serializer: &mut S) -> Result<(), AllocError> {
-        let mut buffer = itoa::Buffer::new();
-        serializer.buffer_mut().print_str(buffer.format(*self))
+        print_integer::<i8>(serializer.buffer_mut(), *self)
     }
 }
 
@@ -74,8 +78,7 @@ impl ESTree for i16 {
     ghost meaning = { λ n _. plain (whole n) };
 
     fn serialize<S: Serializer>(&self, serializer: &mut S) -> Result<(), AllocError> {
-        let mut buffer = itoa::Buffer::new();
-        serializer.buffer_mut().print_str(buffer.format(*self))
+        print_integer::<i16>(serializer.buffer_mut(), *self)
     }
 }
 
@@ -83,8 +86,7 @@ impl ESTree for i32 {
     ghost meaning = { λ n _. plain (whole n) };
 
     fn serialize<S: Serializer>(&self, serializer: &mut S) -> Result<(), AllocError> {
-        let mut buffer = itoa::Buffer::new();
-        serializer.buffer_mut().print_str(buffer.format(*self))
+        print_integer::<i32>(serializer.buffer_mut(), *self)
     }
 }
 
@@ -92,8 +94,7 @@ impl ESTree for i64 {
     ghost meaning = { λ n _. plain (whole n) };
 
     fn serialize<S: Serializer>(&self, serializer: &mut S) -> Result<(), AllocError> {
-        let mut buffer = itoa::Buffer::new();
-        serializer.buffer_mut().print_str(buffer.format(*self))
+        print_integer::<i64>(serializer.buffer_mut(), *self)
     }
 }
 
@@ -101,8 +102,7 @@ impl ESTree for i128 {
     ghost meaning = { λ n _. plain (whole n) };
 
     fn serialize<S: Serializer>(&self, serializer: &mut S) -> Result<(), AllocError> {
-        let mut buffer = itoa::Buffer::new();
-        serializer.buffer_mut().print_str(buffer.format(*self))
+        print_integer::<i128>(serializer.buffer_mut(), *self)
     }
 }
 
@@ -110,7 +110,6 @@ impl ESTree for isize {
     ghost meaning = { λ n _. plain (whole n) };
 
     fn serialize<S: Serializer>(&self, serializer: &mut S) -> Result<(), AllocError> {
-        let mut buffer = itoa::Buffer::new();
-        serializer.buffer_mut().print_str(buffer.format(*self))
+        print_integer::<isize>(serializer.buffer_mut(), *self)
     }
 }

@@ -18,6 +18,8 @@ mod structs;
 #[cfg(test)]
 mod tests;
 mod trace_path;
+#[cfg(test)]
+mod value_tests;
 mod values;
 
 pub use code_points::{CodePoints, LoneSurrogatesString};

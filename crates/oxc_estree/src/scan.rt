@@ -6,9 +6,13 @@ ghost use Rattle.std.specs.List.{position_or_len};
 ghost use Rattle.oxc_estree.specs.Escapes.{escapes_mask, needs_escape};
 
 const ONES: u64 = 0x0101_0101_0101_0101;
+
 const SPACES: u64 = 0x2020_2020_2020_2020;
+
 const QUOTES: u64 = 0x2222_2222_2222_2222;
+
 const BACKSLASHES: u64 = 0x5c5c_5c5c_5c5c_5c5c;
+
 const TOP_BITS: u64 = 0x8080_8080_8080_8080;
 
 /// Marks bytes that need an escape in a JSON string by the top bit of their place in the answer, the

@@ -48,6 +48,14 @@ impl<T: ESTree> ESTree for &T {
     }
 }
 
+impl<T: ESTree> ESTree for &mut T {
+    ghost meaning = { λ v f. T.meaning v.now f };
+
+    fn serialize<S: Serializer>(&self, serializer: &mut S) -> Result<(), AllocError> {
+        (**self).serialize(serializer)
+    }
+}
+
 impl ESTree for String {
     ghost meaning = { λ s _. plain (string (units_of (string_bytes s))) };
 

@@ -1,4 +1,4 @@
-use Rattle.std.proofs.Common.{◌≡◌, ◌/◌, ◌+◌, ◌≤◌, ◌∙◌, ap, sym, arith, length, drop, take, List, ℕ, rules}
+use Rattle.std.proofs.Common.{◌≡◌, ◌/◌, ◌+◌, ◌≤◌, ◌∙◌, ap, sym, arith, length, take, rules}
 use Rattle.std.specs.Int.{trailing_zeros, w64}
 use Rattle.std.specs.List.{position_or_len}
 use Rattle.oxc_estree.specs.Escapes.{needs_escape}

@@ -1,6 +1,5 @@
-use Rattle.std.proofs.Common.{rules, take, drop, flat_map, length, ap, ◌∙◌, arith, take_all}
+use Rattle.std.proofs.Common.{rules, arith}
 use Rattle.std.proofs.lemmas.Str.{IsCharBoundary-start}
-use Rattle.oxc_estree.specs.Escapes.{byte_text}
 use Rattle.oxc_estree.proofs.Refusals.{at_err, refused_after, all_printed}
 use Rattle.oxc_estree.proofs.TextRuns.{text_more, text_parts}
 use Rattle.oxc_estree.proofs.strings.print_escaped.Goals as goal
