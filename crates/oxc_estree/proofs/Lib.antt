@@ -12,3 +12,9 @@ pub mod ListUnderWay
 pub mod Loops
 pub mod Envelopes
 pub mod EnvelopeReads
+pub mod ElementsUnderWay
+pub mod EscapeMarks
+pub mod PlainRuns
+pub mod ByteTexts
+pub mod TextRuns
+pub mod CodePointTexts
