@@ -7,3 +7,5 @@ pub mod inline_string;
 pub mod rope;
 pub mod stack;
 pub mod str;
+#[cfg(test)]
+mod tests;
