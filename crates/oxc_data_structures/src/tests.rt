@@ -3,7 +3,8 @@
 use crate::branch_hints::{likely, unlikely};
 use crate::code_buffer::{CodeBuffer, DEFAULT_INDENT_WIDTH, IndentChar};
 use crate::inline_string::{InlineString, UnsignedInt};
-use crate::rope::Rope;
+use crate::rope::{Rope, get_line_column, get_offset_from_line_and_column};
+use crate::slice_iter::SliceCursor;
 use crate::stack::{CollectError, NonEmptyStack, SparseStack, Stack, TryFromVecError};
 use crate::str::const_str_eq;
 use std::alloc::{AllocError, Global};
@@ -242,6 +243,71 @@ fn lines_of_a_text(rt: HostRuntime) -> Result<(), Fail> {
         assert_eq!(rt; rope.len_lines(), lines, "{text}");
     }
     Ok(())
+}
+
+#[test]
+fn places_in_a_text(rt: HostRuntime) -> Result<(), Fail> {
+    for (text, places) in [
+        (
+            "foo\nbar\nblahblahblah",
+            [(0, 0, 0), (3, 0, 3), (4, 1, 0), (12, 2, 4), (20, 2, 12)],
+        ),
+        (
+            "\u{1f344}abc",
+            [(0, 0, 0), (4, 0, 2), (5, 0, 3), (6, 0, 4), (7, 0, 5)],
+        ),
+        (
+            "\u{e9}\r\nx\u{2028}",
+            [(2, 0, 1), (3, 0, 2), (4, 1, 0), (5, 1, 1), (8, 2, 0)],
+        ),
+    ] {
+        let rope = Rope::from_str(rt.alloc(), text)?;
+        for (offset, line, column) in places {
+            assert!(rt; text.is_char_boundary(offset as usize));
+            let place = get_line_column(&rope, offset, text);
+            assert_eq!(rt; place, (line, column), "{text} at {offset}");
+            assert!(rt; (line as usize) < rope.len_lines());
+            let back = get_offset_from_line_and_column(&rope, line, column);
+            assert_eq!(rt; back, offset, "{text} at {line}, {column}");
+        }
+    }
+    Ok(())
+}
+
+#[test]
+fn columns_that_no_character_has(rt: HostRuntime) -> Result<(), Fail> {
+    let rope = Rope::from_str(rt.alloc(), "a\u{1f344}\r\nb")?;
+    assert_eq!(rt; rope.len_lines(), 2);
+    for (line, column, offset) in [
+        (0, 1, 1),
+        (0, 2, 1),
+        (0, 3, 5),
+        (0, 4, 6),
+        (0, 5, 7),
+        (0, 9, 7),
+        (1, 9, 8),
+    ] {
+        assert!(rt; line < 2);
+        let found = get_offset_from_line_and_column(&rope, line, column);
+        assert_eq!(rt; found, offset, "at {line}, {column}");
+    }
+    Ok(())
+}
+
+#[test]
+fn a_cursor_moves_over_a_slice(rt: HostRuntime) {
+    let mut cursor = SliceCursor::new(&[1, 2, 3, 4]);
+    assert_eq!(rt; cursor.len(), 4);
+    assert_eq!(rt; cursor.peek().copied(), Some(1));
+    assert_eq!(rt; cursor.next().copied(), Some(1));
+    assert_eq!(rt; cursor.peek_copy(), Some(2));
+    cursor.advance(2);
+    assert_eq!(rt; cursor.rest(), [4].as_slice());
+    cursor.advance_to_end();
+    assert_eq!(rt; cursor.len(), 0);
+    assert_eq!(rt; cursor.peek().copied(), None);
+    assert_eq!(rt; cursor.peek_copy(), None);
+    assert_eq!(rt; cursor.next().copied(), None);
 }
 
 #[test]
