@@ -1,6 +1,7 @@
 //! The laws on slots. The functions here do nothing: each has a law as its contract.
 
 ghost use Rattle.oxc_mangler.specs.NameOrder.{LengthsNeverFall, ShortIsOneToOne};
+ghost use Rattle.oxc_mangler.specs.PrivateLaws.{PrivateNamesKeepBindings, PrivateNumbersDiffer};
 ghost use Rattle.oxc_mangler.specs.SlotNames.{SlotNamesKeepApart, SlotNamesKeepBindings};
 ghost use Rattle.oxc_mangler.specs.Laws.{
   LiveTogether,
@@ -47,4 +48,15 @@ pub fn lengths_never_fall()
 pub fn slot_names_keep_bindings()
     ensures apart { SlotNamesKeepApart }
     ensures bindings { SlotNamesKeepBindings }
+{}
+
+/// The law that along the class bodies around a place the numbers of private names are all different,
+/// those of open classes aside, which have none.
+pub fn private_numbers_differ()
+    ensures { PrivateNumbersDiffer }
+{}
+
+/// The law that under the new private names every private place keeps its binding, and so its class.
+pub fn private_names_keep_bindings()
+    ensures { PrivateNamesKeepBindings }
 {}
