@@ -8,3 +8,6 @@ pub mod Given
 pub mod Counting
 pub mod Passing
 pub mod PrivateChains
+pub mod Untaken
+pub mod SlotNamed
+pub mod Renamed

@@ -2,7 +2,12 @@
 
 ghost use Rattle.oxc_mangler.specs.NameOrder.{LengthsNeverFall, ShortIsOneToOne};
 ghost use Rattle.oxc_mangler.specs.PrivateLaws.{PrivateNamesKeepBindings, PrivateNumbersDiffer};
-ghost use Rattle.oxc_mangler.specs.SlotNames.{SlotNamesKeepApart, SlotNamesKeepBindings};
+ghost use Rattle.oxc_mangler.specs.SlotNames.{
+  GivenNamesFit,
+  GivenNamesKeepBindings,
+  SlotNamesKeepApart,
+  SlotNamesKeepBindings,
+};
 ghost use Rattle.oxc_mangler.specs.Laws.{
   LiveTogether,
   LiveUpToHome,
@@ -59,4 +64,11 @@ pub fn private_numbers_differ()
 /// The law that under the new private names every private place keeps its binding, and so its class.
 pub fn private_names_keep_bindings()
     ensures { PrivateNamesKeepBindings }
+{}
+
+/// The law that the given names of a tree's slots are different and not taken, and that every place has
+/// the binding under the given names that it had.
+pub fn given_names_keep_bindings()
+    ensures fit { GivenNamesFit }
+    ensures bindings { GivenNamesKeepBindings }
 {}
