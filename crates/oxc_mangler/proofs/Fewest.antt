@@ -177,7 +177,7 @@ slots-needed ms bs (g ∷ gs) a =
 
 -- ---- both together
 
-slotted-groups : (ms : List Member) (bs : List Slotted) (gs : List Group) → map (λ b. b.group) (slots_after ms bs gs) ≡ map (λ b. b.group) bs ++ gs
+pub slotted-groups : (ms : List Member) (bs : List Slotted) (gs : List Group) → map (λ b. b.group) (slots_after ms bs gs) ≡ map (λ b. b.group) bs ++ gs
 unfolding all_open
 slotted-groups ms bs [] = sym (append-nil (map (λ b. b.group) bs))
 slotted-groups ms bs (g ∷ gs) =

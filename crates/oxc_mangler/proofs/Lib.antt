@@ -4,3 +4,4 @@ pub mod Together
 pub mod Fewest
 pub mod Order
 pub mod Numbered
+pub mod Given

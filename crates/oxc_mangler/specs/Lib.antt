@@ -9,4 +9,5 @@ pub mod PrivateNumbers
 pub mod Mangled
 pub mod Laws
 pub mod NameOrder
+pub mod SlotNames
 pub mod Open

@@ -1,6 +1,7 @@
 //! The laws on slots. The functions here do nothing: each has a law as its contract.
 
 ghost use Rattle.oxc_mangler.specs.NameOrder.{LengthsNeverFall, ShortIsOneToOne};
+ghost use Rattle.oxc_mangler.specs.SlotNames.{SlotNamesKeepApart, SlotNamesKeepBindings};
 ghost use Rattle.oxc_mangler.specs.Laws.{
   LiveTogether,
   LiveUpToHome,
@@ -39,4 +40,11 @@ pub fn short_is_one_to_one()
 /// The law that lengths of short names never fall as the number grows.
 pub fn lengths_never_fall()
     ensures { LengthsNeverFall }
+{}
+
+/// The law on names that are given by slot: where a tree's slots have different names, none of them
+/// taken, these keep apart what the old names did, and every place has the binding that it had.
+pub fn slot_names_keep_bindings()
+    ensures apart { SlotNamesKeepApart }
+    ensures bindings { SlotNamesKeepBindings }
 {}

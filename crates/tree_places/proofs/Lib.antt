@@ -6,3 +6,4 @@ pub mod Numbers
 pub mod Lineages
 pub mod Rising
 pub mod Homed
+pub mod Rooted

@@ -1,7 +1,7 @@
 -- Where new names keep apart what the old ones did, each place has the binding that it had.
 use Rattle.std.specs.Prelude.{◌≡◌, ◌⊎◌, ℕ, suc, ◌≤◌, Bool, true, false, not, ◌&&◌, List, [], ◌∷◌, map, find, Option, Some, None}
 use Rattle.std.proofs.Common.{refl, sym, ap, ◌∙◌, subst, arith, inl, inr}
-use Rattle.std.proofs.lemmas.Bool.{or_left, or_right, and_parts, and_from, both_ways, eq-eqb}
+use Rattle.std.proofs.lemmas.Bool.{or_cases, or_left, or_right, and_parts, and_from, both_ways, eq-eqb}
 use Rattle.tree_nodes.specs.declared.table.Role.{Role}
 use Rattle.tree_nodes.specs.declared.table.Role.TheVariants.{Called, Declares, MemberKey, Plain, Read, ReadWrite, Write}
 use Rattle.tree_places.proofs.Outwards.{inside-parent, inside-refl, same-eq, same-refl}
@@ -133,7 +133,7 @@ module _ {N : Type 0} (same : N → N → Bool) (tells : TellsSame same) (ps : L
   binding_refers q r = rw r refl
 
   -- the first that declares a name in a home plainly is its own binding
-  first_own : (x : N) (h : Scope) (c : Named N) → find (declares_at same x h) ps ≡ Some c → IsBindingOf same ps c × (declares_plainly c.site ≡ true) × At x h c
+  pub first_own : (x : N) (h : Scope) (c : Named N) → find (declares_at same x h) ps ≡ Some c → IsBindingOf same ps c × (declares_plainly c.site ≡ true) × At x h c
   unfolding all_open
   first_own x h c e =
       let f : First (declares_at same x h) ps c = find-first (declares_at same x h) ps c e in
@@ -196,6 +196,54 @@ module _ {N : Type 0} (same : N → N → Bool) (tells : TellsSame same) (ps : L
     where
       outer : N → ℕ → Scope → Option ℕ → Option ℕ
       outer x k ks o = elim o [ Some m ↦ Some m | None ↦ first_outwards (binder same ps x) ks ]
+
+module _ {N : Type 0} (same : N → N → Bool) (tells : TellsSame same) (ps : List (Named N)) where
+  -- where a binding comes from
+  pub binding_source : (p : Named N) → In p ps → (n : ℕ) → binding same ps p ≡ Some n → (b : Named N) × (node b ≡ n) × IsBindingOf same ps b × (b.name ≡ p.name)
+  unfolding all_open
+  binding_source p i n e = tested (refers p.site)
+      (λ r. let s : (b : Named N) × (node b ≡ n) × IsBindingOf same ps b × At same tells ps p.name (home b.site) b × (is_inside p.site.setting.scope (home b.site) ≡ true) =
+      outwards_source same tells ps p.name p.site.setting.scope n (sym (binding_refers same tells ps p r) ∙ e) in
+      (s.0, s.1, s.2, s.3.named))
+      (λ r. tested (declares p.site)
+      (λ d. let c : (b : Named N) × Owner same tells ps p b = owner same tells ps p i d in
+      (c.0, some_one (node c.0) n (sym c.1.bound ∙ e), c.1.is, c.1.named))
+      (λ d. absurd (none_some n (sym (nothing p.site r d p refl) ∙ e))))
+    where
+      nothing : (s : Site) → refers s ≡ false → declares s ≡ false → (q : Named N) → q.site ≡ s → binding same ps q ≡ None
+      nothing s r d q w = rw (w, r, d) refl
+
+  -- what a scope outwards binds, where nothing is found
+  nothing_outwards : (x : N) (h : Scope) → (h ≡ [] → ⊥) → (s : Scope) → first_outwards (binder same ps x) s ≡ None → is_inside s h ≡ true → binder same ps x h ≡ None
+  unfolding all_open
+  nothing_outwards x h root [] e inside = absurd (root (sym (same-eq [] h inside)))
+  nothing_outwards x h root (k ∷ ks) e inside = told (binder same ps x (k ∷ ks))
+      (λ none. go none (or_cases _ _ inside) (nothing_outwards x h root ks (sym (ap further none) ∙ e)))
+      (λ m f. absurd (none_some m (sym e ∙ ap further f)))
+    where
+      further : Option ℕ → Option ℕ
+      further o = elim o [ Some j ↦ Some j | None ↦ first_outwards (binder same ps x) ks ]
+
+      go : binder same ps x (k ∷ ks) ≡ None → (same_scope (k ∷ ks) h ≡ true) ⊎ (is_inside ks h ≡ true) → (is_inside ks h ≡ true → binder same ps x h ≡ None) → binder same ps x h ≡ None
+      go none (inl q) ih = subst (λ (r : Scope). binder same ps x r ≡ None) (same-eq (k ∷ ks) h q) none
+      go none (inr q) ih = ih q
+
+  binds : (b : Named N) → In b ps → declares b.site ≡ true → binder same ps b.name (home b.site) ≡ None → ⊥
+  unfolding all_open
+  binds b i d e = told (find (declares_at same b.name (home b.site)) ps)
+      (λ none. told (find (names_function_at same b.name (home b.site)) ps)
+      (λ nor. tested (names_function b.site)
+      (λ f. find-none (names_function_at same b.name (home b.site)) ps b nor i (function_to same tells ps b.name (home b.site) b f refl refl))
+      (λ f. find-none (declares_at same b.name (home b.site)) ps b none i (plain_to same tells ps b.name (home b.site) b (declares_plain b.site d f) refl refl)))
+      (λ c g. none_some (node c) (sym e ∙ ap (λ o. or_else (node_of o) (node_of (find (names_function_at same b.name (home b.site)) ps))) none ∙ ap node_of g)))
+      (λ c g. none_some (node c) (sym e ∙ ap (λ o. or_else (node_of o) (node_of (find (names_function_at same b.name (home b.site)) ps))) g))
+
+  -- a reference without a binding lies in no home where its name is declared
+  pub unbound_nothing : (p b : Named N) → refers p.site ≡ true → binding same ps p ≡ None → In b ps → declares b.site ≡ true → (home b.site ≡ [] → ⊥) → is_inside p.site.setting.scope (home b.site) ≡ true → b.name ≡ p.name → ⊥
+  unfolding all_open
+  unbound_nothing p b r e i d root inside n =
+      binds b i d (subst (λ (x : N). binder same ps x (home b.site) ≡ None) (sym n)
+      (nothing_outwards p.name (home b.site) root p.site.setting.scope (sym (binding_refers same tells ps p r) ∙ e) inside))
 
 -- ---- two columns of names
 
