@@ -1,5 +1,5 @@
 -- Identifier names (ECMA-262, 12.7). A text is its bytes, a character its code point.
-use Rattle.std.specs.Prelude.{ℕ, Bool, false, ◌||◌, ◌&&◌, ◌==◌, nat_lt, List, [], ◌∷◌, if◌then◌else◌}
+use Rattle.std.specs.Prelude.{ℕ, ◌+◌, Bool, false, not, ◌||◌, ◌&&◌, ◌==◌, nat_lt, List, [], ◌∷◌, if◌then◌else◌}
 use Rattle.std.specs.Char.{is_ascii_alphabetic, is_ascii_digit}
 use Rattle.std.specs.List.{list_all}
 use Rattle.std.specs.Str.{chars}
@@ -22,3 +22,18 @@ are_identifier_characters (c ∷ cs) = is_identifier_start c && list_all is_iden
 
 unfoldable pub is_identifier_name : List ℕ → Bool
 is_identifier_name text = are_identifier_characters (chars text)
+
+-- U+30FB and U+FF65, the middle dots of Katakana: parts only since version 15.1 of Unicode
+abbrev pub is_katakana_middle_dot : ℕ → Bool
+is_katakana_middle_dot c = (c == 12539) || (c == 65381)
+
+-- whether names with this character are taken: where patched, with no middle dot of Katakana
+abbrev pub is_taken : Bool → ℕ → Bool
+is_taken patched c = not (patched && is_katakana_middle_dot c)
+
+abbrev pub is_taken_part : Bool → ℕ → Bool
+is_taken_part patched c = is_identifier_part c && is_taken patched c
+
+-- the entry of an ASCII character: 1 for a start, 2 for a part
+abbrev pub ascii_id_flags : ℕ → ℕ
+ascii_id_flags c = (if is_identifier_start c then 1 else 0) + (if is_identifier_part c then 2 else 0)

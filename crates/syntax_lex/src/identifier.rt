@@ -1,19 +1,87 @@
 //! Identifier names (ECMA-262, 12.7).
 
-ghost use Rattle.std.specs.Prelude.{◌≡◌};
+ghost use Rattle.std.specs.List.{list_all, list_any};
+ghost use Rattle.std.specs.Prelude.{◌&&◌, ◌<◌, ◌≡◌, ◌≤◌, ℕ, not, slice_index};
+ghost use Rattle.std.specs.Str.{chars};
 ghost use Rattle.syntax_lex.specs.Identifier as spec;
 
 use unicode::properties::{is_id_continue, is_id_start};
+
+/// U+200C ZERO WIDTH NON-JOINER, which may stand within an identifier name.
+pub const ZWNJ: char = '\u{200c}';
+
+/// U+200D ZERO WIDTH JOINER, which may stand within an identifier name.
+pub const ZWJ: char = '\u{200d}';
+
+/// U+30FB KATAKANA MIDDLE DOT.
+const KATAKANA_MIDDLE_DOT: char = '\u{30fb}';
+
+/// U+FF65 HALFWIDTH KATAKANA MIDDLE DOT.
+const HALFWIDTH_KATAKANA_MIDDLE_DOT: char = '\u{ff65}';
+
+/// The bit of [`ASCII_ID_FLAGS`] that marks the characters with which an identifier name may begin.
+const ID_START: u8 = 1;
+
+/// The bit that marks those with which it may go on.
+const ID_CONTINUE: u8 = 2;
+
+/// A value that lies on a cache line of its own in oxc; here only its type says so.
+pub struct Align64<T>(pub T);
+
+impl Align64<[u8; 128]> {
+    /// The entry of an ASCII character.
+    pub fn get(&self, i: usize) -> u8
+        requires { i < 128 }
+        ensures { result ≡ slice_index self.now.0 i }
+    {
+        self.0[i]
+    }
+}
+
+/// For each ASCII character 1 where an identifier name may begin with it, and 2 where it may go on with it.
+#[rattlefmt::skip]
+pub const ASCII_ID_FLAGS: Align64<[u8; 128]> = Align64([
+    0, 0, 0, 0, 0, 0, 0, 0, 0, 0, 0, 0, 0, 0, 0, 0,
+    0, 0, 0, 0, 0, 0, 0, 0, 0, 0, 0, 0, 0, 0, 0, 0,
+    0, 0, 0, 0, 3, 0, 0, 0, 0, 0, 0, 0, 0, 0, 0, 0,
+    2, 2, 2, 2, 2, 2, 2, 2, 2, 2, 0, 0, 0, 0, 0, 0,
+    0, 3, 3, 3, 3, 3, 3, 3, 3, 3, 3, 3, 3, 3, 3, 3,
+    3, 3, 3, 3, 3, 3, 3, 3, 3, 3, 3, 0, 0, 0, 0, 3,
+    0, 3, 3, 3, 3, 3, 3, 3, 3, 3, 3, 3, 3, 3, 3, 3,
+    3, 3, 3, 3, 3, 3, 3, 3, 3, 3, 3, 0, 0, 0, 0, 0,
+]);
+
+/// The law that each entry of the table is the one that the rule gives.
+pub fn ascii_id_flags_by_rule(i: u8)
+    requires { i < 128 }
+    ensures { slice_index ASCII_ID_FLAGS.0 i ≡ spec.ascii_id_flags i }
+{}
 
 /// Whether an identifier name may begin with this character.
 pub fn is_identifier_start(c: char) -> bool
     ensures { result ≡ spec.is_identifier_start c }
 {
     if c.is_ascii() {
-        c.is_ascii_alphabetic() || c == '$' || c == '_'
+        is_identifier_start_ascii(c)
     } else {
-        is_id_start(c)
+        is_identifier_start_unicode(c)
     }
+}
+
+/// Whether an identifier name may begin with this ASCII character.
+pub fn is_identifier_start_ascii(c: char) -> bool
+    requires { c < 128 }
+    ensures { result ≡ spec.is_identifier_start c }
+{
+    ASCII_ID_FLAGS.get(c as usize) & ID_START != 0
+}
+
+/// Whether an identifier name may begin with this character, which is past ASCII.
+pub fn is_identifier_start_unicode(c: char) -> bool
+    requires { 128 ≤ c }
+    ensures { result ≡ spec.is_identifier_start c }
+{
+    is_id_start(c)
 }
 
 /// Whether an identifier name may go on with this character.
@@ -21,8 +89,92 @@ pub fn is_identifier_part(c: char) -> bool
     ensures { result ≡ spec.is_identifier_part c }
 {
     if c.is_ascii() {
-        c.is_ascii_alphabetic() || c.is_ascii_digit() || c == '$' || c == '_'
+        is_identifier_part_ascii(c)
     } else {
-        is_id_continue(c) || c == '\u{200c}' || c == '\u{200d}'
+        is_identifier_part_unicode(c)
     }
+}
+
+/// Whether an identifier name may go on with this ASCII character.
+pub fn is_identifier_part_ascii(c: char) -> bool
+    requires { c < 128 }
+    ensures { result ≡ spec.is_identifier_part c }
+{
+    ASCII_ID_FLAGS.get(c as usize) & ID_CONTINUE != 0
+}
+
+/// Whether an identifier name may go on with this character, which is past ASCII.
+pub fn is_identifier_part_unicode(c: char) -> bool
+    requires { 128 ≤ c }
+    ensures { result ≡ spec.is_identifier_part c }
+{
+    is_id_continue(c) || c == ZWNJ || c == ZWJ
+}
+
+/// Whether a text is an identifier name: a start, and then parts only. The empty text is none.
+pub fn is_identifier_name(name: &str) -> bool
+    ensures { result ≡ spec.is_identifier_name name.now }
+{
+    is_identifier_name_impl(name, false)
+}
+
+/// Whether a text is an identifier name in which no middle dot of Katakana stands: these are parts of names in
+/// some versions of Unicode alone, so that older engines take no name with one.
+pub fn is_identifier_name_patched(name: &str) -> bool
+    ensures { result
+        ≡ (spec.is_identifier_name name.now
+        && not (list_any spec.is_katakana_middle_dot (chars name.now))) }
+{
+    is_identifier_name_impl(name, true)
+}
+
+fn is_identifier_name_impl(name: &str, patched: bool) -> bool
+    ensures { result
+        ≡ (spec.is_identifier_name name.now
+        && list_all (spec.is_taken patched) (chars name.now)) }
+{
+    let mut chars = name.chars();
+    match chars.next() {
+        Some(first) => is_taken_start(first, patched) && are_taken_parts(chars.as_str(), patched),
+        None => false,
+    }
+}
+
+/// Whether an identifier name may go on with this text.
+fn are_taken_parts(text: &str, patched: bool) -> bool
+    ensures { result ≡ list_all (spec.is_taken_part patched) (chars text.now) }
+{
+    for c in text.chars() {
+        if !is_taken_part(c, patched) {
+            return false;
+        }
+    }
+    true
+}
+
+/// Whether an identifier name may begin with this character.
+fn is_taken_start(c: char, patched: bool) -> bool
+    ensures { result ≡ (spec.is_identifier_start c && spec.is_taken patched c) }
+{
+    is_identifier_start(c) && is_taken(c, patched)
+}
+
+/// Whether an identifier name may go on with this character.
+fn is_taken_part(c: char, patched: bool) -> bool
+    ensures { result ≡ spec.is_taken_part patched c }
+{
+    is_identifier_part(c) && is_taken(c, patched)
+}
+
+/// Whether names with this character are taken: where patched, with no middle dot of Katakana.
+fn is_taken(c: char, patched: bool) -> bool
+    ensures { result ≡ spec.is_taken patched c }
+{
+    !(patched && is_katakana_middle_dot(c))
+}
+
+fn is_katakana_middle_dot(c: char) -> bool
+    ensures { result ≡ spec.is_katakana_middle_dot c }
+{
+    c == KATAKANA_MIDDLE_DOT || c == HALFWIDTH_KATAKANA_MIDDLE_DOT
 }

@@ -1,4 +1,8 @@
-//! The lexical grammar's tables: which texts are identifier names.
+//! The lexical grammar's tables: identifier names, reserved words, line terminators, operators and how tightly
+//! they bind, bases of numbers, and the editions of the language.
 #![tactic(auto)]
 
 pub mod identifier;
+pub mod keyword;
+#[cfg(test)]
+mod tests;

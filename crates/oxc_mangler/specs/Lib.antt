@@ -1,0 +1,13 @@
+pub mod Options
+pub mod ShortNames
+pub mod Kept
+pub mod Groups
+pub mod FreeNames
+pub mod Slots
+pub mod GivenNames
+pub mod PrivateNumbers
+pub mod Mangled
+pub mod Laws
+pub mod NameOrder
+pub mod SlotNames
+pub mod Open

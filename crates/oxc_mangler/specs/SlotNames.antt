@@ -1,0 +1,42 @@
+-- The law on names that are given by slot.
+use Rattle.std.specs.Prelude.{◌≡◌, ◌<◌, ℕ, [], Option, Some, None, IsFalse}
+use Rattle.std.specs.List.{AllByRecursion}
+use Rattle.oxc_mangler.specs.FreeNames.{is_taken}
+use Rattle.oxc_mangler.specs.Groups.{group_at, members}
+use Rattle.oxc_mangler.specs.Kept.{kept_alone}
+use Rattle.oxc_mangler.specs.Options.{Options}
+use Rattle.oxc_mangler.specs.Slots.{number_of_slots, slot_of, slots_of}
+use Rattle.tree_nodes.specs.Tree.{Parts, Text}
+use Rattle.tree_places.specs.Places.{Place, places, sites, withs}
+use Rattle.tree_places.specs.Scopes.{same_scope}
+use Rattle.tree_semantic.specs.Bindings.{binding, bindings, bound, same_name}
+use Rattle.tree_semantic.specs.Renamings.{KeepsApart, all_under}
+
+-- the group of a place of a tree, and the slot of that
+unfoldable pub group_in : Options → Parts → Place → Option ℕ
+group_in o t p = group_at (kept_alone o (withs t) (places t) (bound same_name (places t))) (places t) (bound same_name (places t)) (binding same_name (places t) p)
+
+unfoldable pub slot_in : Options → Parts → Place → Option ℕ
+slot_in o t p = slot_of (slots_of o t) (group_in o t p)
+
+-- a place is called as its slot, where it has one
+unfoldable pub named_by_slot : Options → Parts → (ℕ → Text) → Place → Text
+named_by_slot o t name p = elim (slot_in o t p) [ None ↦ p.name | Some k ↦ name k ]
+
+-- each place lies in a var scope, as it does in a Program
+abbrev pub IsRooted : Parts → Type 0
+IsRooted t = AllByRecursion (λ s. IsFalse (same_scope s.setting.var_scope [])) (sites t)
+
+-- names for a tree's slots: different ones, none of which is taken
+pub record FitSlots (o : Options) (t : Parts) (name : ℕ → Text) : Type 0 where
+  pub different : (j k : ℕ) → j < number_of_slots (slots_of o t) → k < number_of_slots (slots_of o t) → name j ≡ name k → j ≡ k
+  pub untaken : (k : ℕ) → k < number_of_slots (slots_of o t) → IsFalse (is_taken o (members o t) (name k))
+
+-- such names keep apart what the old ones did
+abbrev pub SlotNamesKeepApart : Type 0
+SlotNamesKeepApart = (o : Options) (t : Parts) (name : ℕ → Text) → IsRooted t → FitSlots o t name → KeepsApart same_name (places t) (named_by_slot o t name)
+
+-- and leave each place its binding
+abbrev pub SlotNamesKeepBindings : Type 0
+SlotNamesKeepBindings = (o : Options) (t : Parts) (name : ℕ → Text) → IsRooted t → FitSlots o t name
+    → bindings same_name (all_under (named_by_slot o t name) (places t)) ≡ bindings same_name (places t)

@@ -1,0 +1,50 @@
+//! The laws on slots. The functions here do nothing: each has a law as its contract.
+
+ghost use Rattle.oxc_mangler.specs.NameOrder.{LengthsNeverFall, ShortIsOneToOne};
+ghost use Rattle.oxc_mangler.specs.SlotNames.{SlotNamesKeepApart, SlotNamesKeepBindings};
+ghost use Rattle.oxc_mangler.specs.Laws.{
+  LiveTogether,
+  LiveUpToHome,
+  SlotsAreFewest,
+  SlotsNeverClash,
+  WidthIsReached,
+};
+
+/// The law that a group which is live in a scope is live in each scope further out, up to its home.
+pub fn live_up_to_home()
+    ensures { LiveUpToHome }
+{}
+
+/// The law that of two groups which are live in one scope one is live in the other's home.
+pub fn live_together()
+    ensures { LiveTogether }
+{}
+
+/// The law that two groups with one slot are never live in one scope.
+pub fn slots_never_clash()
+    ensures { SlotsNeverClash }
+{}
+
+/// The law that a tree has as many slots as groups are live in its busiest scope, and that the home of
+/// a group with the last slot is such a scope.
+pub fn slots_are_fewest()
+    ensures fewest { SlotsAreFewest }
+    ensures reached { WidthIsReached }
+{}
+
+/// The law that no two numbers have one short name.
+pub fn short_is_one_to_one()
+    ensures { ShortIsOneToOne }
+{}
+
+/// The law that lengths of short names never fall as the number grows.
+pub fn lengths_never_fall()
+    ensures { LengthsNeverFall }
+{}
+
+/// The law on names that are given by slot: where a tree's slots have different names, none of them
+/// taken, these keep apart what the old names did, and every place has the binding that it had.
+pub fn slot_names_keep_bindings()
+    ensures apart { SlotNamesKeepApart }
+    ensures bindings { SlotNamesKeepBindings }
+{}

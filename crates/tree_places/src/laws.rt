@@ -1,0 +1,32 @@
+//! The laws on places. The functions here do nothing: each has a law as its contract.
+
+ghost use Rattle.tree_places.specs.Laws.{
+  NumbersRise,
+  RenamingMovesNoPlace,
+  ScopesAreNearest,
+  VarScopesLieOutside,
+};
+
+/// The law that renaming moves no place: a tree and the same tree renamed have the same sites, the
+/// same scopes, and the same scopes around WithStatements.
+pub fn renaming_moves_no_place()
+    ensures { RenamingMovesNoPlace }
+{}
+
+/// The law that the scope of a place is that of its nearest enclosing node which opens a scope around
+/// the field in which the place lies, and that its var scope is the nearest of those in which a `var`
+/// may declare; and that a place's number is that of its node among all nodes.
+pub fn scopes_are_nearest()
+    ensures { ScopesAreNearest }
+{}
+
+/// The law that numbers rise in printing order: those of places, and those of scopes, of which the
+/// n-th, from 0, has the number n and lies in an earlier one; and that each place has a name.
+pub fn numbers_rise()
+    ensures { NumbersRise }
+{}
+
+/// The law that the var scope of a place is its scope or one further out.
+pub fn var_scopes_lie_outside()
+    ensures { VarScopesLieOutside }
+{}
