@@ -1,10 +1,12 @@
 use crate::adapters::{ReaderSource, WriterSink};
+use crate::estree::{MangleError, mangle_estree, mangle_value};
 use crate::memory::{MemorySink, MemorySource, SliceSource};
 use crate::read_all::{ReadAllError, read_all};
 use crate::run::run;
 use crate::source::Failed;
 use crate::status::Status;
 use crate::write_whole::write_whole;
+use serde_json::Value;
 use std::io::{self, Cursor, ErrorKind, Read, Write};
 use std::test::Fail;
 
@@ -154,15 +156,81 @@ fn runs_end_by_their_input(rt: HostRuntime) -> Result<(), Fail> {
 }
 
 #[test]
-fn runs_end_by_their_faults(rt: HostRuntime) -> Result<(), Fail> {
-    for (read_fails, write_fails, status, written) in [
-        ([2], [9], Status::ReadFault, ""),
-        ([99], [1], Status::WriteFault, "{\"node\":\n{\"type\""),
-    ] {
-        let mut source = MemorySource::new(EMPTY_MODULE.as_bytes(), 8, &read_fails);
-        let mut sink = MemorySink::with_room(rt.alloc(), 106, 16, &write_fails)?;
-        assert_eq!(rt; run(rt.alloc(), &mut source, &mut sink), status);
-        assert_eq!(rt; sink.bytes(), written.as_bytes());
+fn runs_end_by_a_failing_read(rt: HostRuntime) -> Result<(), Fail> {
+    // Eleven calls give 8 bytes each, but for the last, which gives 4; the twelfth finds the end.
+    for call in 0..12 {
+        let fails = [call];
+        let mut source = MemorySource::new(EMPTY_MODULE.as_bytes(), 8, &fails);
+        let mut sink = MemorySink::with_room(rt.alloc(), 106, 106, &[])?;
+        let ended = run(rt.alloc(), &mut source, &mut sink);
+        assert_eq!(rt; ended, Status::ReadFault, "in call {call}");
+        assert_eq!(rt; sink.bytes(), b"".as_slice(), "in call {call}");
     }
+    Ok(())
+}
+
+#[test]
+fn runs_end_by_a_failing_write(rt: HostRuntime) -> Result<(), Fail> {
+    // Seven calls take 16 bytes each, but for the last, which takes 10; the eighth settles them.
+    for (room, call, status, held) in [
+        (106, 0, Status::WriteFault, 0),
+        (106, 1, Status::WriteFault, 16),
+        (106, 2, Status::WriteFault, 32),
+        (106, 3, Status::WriteFault, 48),
+        (106, 4, Status::WriteFault, 64),
+        (106, 5, Status::WriteFault, 80),
+        (106, 6, Status::WriteFault, 96),
+        (106, 7, Status::WriteFault, 106),
+        (40, 99, Status::WriteFault, 40),
+        (106, 99, Status::Done, 106),
+    ] {
+        let fails = [call];
+        let mut source = SliceSource::new(EMPTY_MODULE.as_bytes());
+        let mut sink = MemorySink::with_room(rt.alloc(), room, 16, &fails)?;
+        let ended = run(rt.alloc(), &mut source, &mut sink);
+        assert_eq!(rt; ended, status, "room {room}, call {call}");
+        let written = ANSWER.as_bytes().get(..held);
+        assert_eq!(rt; Some(sink.bytes()), written, "room {room}, call {call}");
+    }
+    Ok(())
+}
+
+#[test]
+fn answers_are_read_again(rt: HostRuntime) {
+    for (input, answer) in [
+        (EMPTY_MODULE, Ok(ANSWER)),
+        (ANSWER, Ok(ANSWER)),
+        (
+            "{\"fixes\":[0,{\"a\":null}],\"node\":{\"type\":\"Program\",\"body\":[],\"sourceType\":\"module\"}}",
+            Ok(ANSWER),
+        ),
+        ("{\"node\":null,\"fixes\":[]}", Err(MangleError::BadTree)),
+        ("{\"fixes\":[]}", Err(MangleError::BadTree)),
+        (
+            "{\"node\":{\"type\":\"Program\",\"body\":[],\"sourceType\":\"module\"},\"fixes\":null}",
+            Err(MangleError::BadTree),
+        ),
+        (
+            "{\"node\":{\"type\":\"Program\",\"body\":[],\"sourceType\":\"module\"},\"fixes\":[],\"loc\":null}",
+            Err(MangleError::BadTree),
+        ),
+        (
+            "{\"node\":{\"node\":{\"type\":\"Program\",\"body\":[],\"sourceType\":\"module\"},\"fixes\":[]},\"fixes\":[]}",
+            Err(MangleError::BadTree),
+        ),
+        ("{\"node\":", Err(MangleError::NotJson)),
+    ] {
+        match mangle_estree(rt.alloc(), input.as_bytes()) {
+            Ok(text) => assert_eq!(rt; answer, Ok(text.as_str()), "of {input}"),
+            Err(error) => assert_eq!(rt; answer, Err(error), "of {input}"),
+        }
+    }
+}
+
+#[test]
+fn values_are_answered_alike(rt: HostRuntime) -> Result<(), Fail> {
+    let value = Value::from_str(rt.alloc(), ANSWER)?;
+    let text = mangle_value(rt.alloc(), &value)?;
+    assert_eq!(rt; text.as_str(), ANSWER);
     Ok(())
 }
