@@ -1,2 +1,4 @@
 pub mod Equality
+pub mod Ident
+pub mod IdentHash
 pub mod Str
