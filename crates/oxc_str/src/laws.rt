@@ -6,6 +6,7 @@ ghost use Rattle.oxc_str.specs.Equality.{ComparesBy};
 ghost use Rattle.oxc_str.specs.Ident.{ident_text, stored_hash, IsHashed, IsUnhashed};
 ghost use Rattle.oxc_str.specs.IdentHash as spec;
 ghost use Rattle.oxc_str.specs.Str.{text_of};
+ghost use Rattle.oxc_str.specs.Wtf8.{BytesGiveUnitsBack};
 ghost use Rattle.oxc_str.specs.declared.ident.Ident.{Ident as IdentValue};
 ghost use Rattle.oxc_str.specs.declared.ident_hasher.IdentHasher.{IdentHasher as HasherState};
 
@@ -42,4 +43,10 @@ pub fn equal_idents_hash_alike()
 pub fn idents_hash_as_their_texts()
     ensures write { (i : IdentValue) (h : HasherState) → fold ⟦<IdentHasher as Hasher>⟧.write h (⟦<Ident<'static> as Hash>⟧.hash_input i) ≡ ⟦<IdentHasher as Hasher>⟧.write h (ident_text i) }
     ensures state { (i : IdentValue) (h : HasherState) → ⟦<IdentHasher as Hasher>⟧.finish (⟦<IdentHasher as Hasher>⟧.write h (ident_text i)) ≡ spec.written (ident_text i) }
+{}
+
+/// The bytes of code units are WTF-8, and give the code units back. So no two lists of code units have
+/// the same bytes.
+pub fn bytes_give_units_back()
+    ensures { BytesGiveUnitsBack }
 {}

@@ -2,16 +2,25 @@
 #![tactic(auto)]
 
 pub mod compact_str;
+pub mod encode_utf16;
 pub mod ident;
 pub mod ident_hasher;
+pub mod js_char;
+pub mod js_chars;
+pub mod js_str;
 pub mod laws;
 pub mod str;
 #[cfg(test)]
 mod tests;
+pub mod wtf8;
 
 pub use compact_str::{CompactStr, MAX_INLINE_LEN};
+pub use encode_utf16::EncodeUtf16;
 pub use ident::{
     ArenaIdentHashMap, ArenaIdentHashSet, Ident, IdentHashMap, IdentHashSet, new_const_ident,
 };
 pub use ident_hasher::{IdentBuildHasher, IdentHasher, ident_hash};
+pub use js_char::JSChar;
+pub use js_chars::JSChars;
+pub use js_str::JSStr;
 pub use str::{ArenaStr, Str};

@@ -1,0 +1,6 @@
+pub mod CodePoints
+pub mod CodeUnits
+pub mod Canonical
+pub mod Decoding
+pub mod Lengths
+pub mod Backwards
