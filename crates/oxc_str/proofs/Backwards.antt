@@ -71,7 +71,7 @@ IsCodePoint-last : (c : ℕ) (cs : List ℕ) → AreCodePoints (c ∷ cs) → Is
 IsCodePoint-last c [] a = a.0
 IsCodePoint-last c (d ∷ cs) a = IsCodePoint-last d cs a.1
 
-encodes-append : (cs ds : List ℕ) → encodes (cs ++ ds) ≡ encodes cs ++ encodes ds
+pub encodes-append : (cs ds : List ℕ) → encodes (cs ++ ds) ≡ encodes cs ++ encodes ds
 encodes-append [] ds = refl
 encodes-append (c ∷ cs) ds = ap (λ (l : List ℕ). encode c ++ l) (encodes-append cs ds) ∙ sym (append-assoc (encode c) (encodes cs) (encodes ds))
   where

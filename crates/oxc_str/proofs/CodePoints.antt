@@ -14,19 +14,19 @@ AreCodePoints (c ∷ cs) = IsCodePoint c × AreCodePoints cs
 
 -- ---- the bytes in each range
 
-one : (c : ℕ) → c < 128 → encode c ≡ c ∷ []
+pub one : (c : ℕ) → c < 128 → encode c ≡ c ∷ []
 unfolding encode
 one c h = rw (lt-ltb c 128 h)
 
-two : (c : ℕ) → 128 ≤ c → c < 2048 → encode c ≡ (192 + c / 64) ∷ next c ∷ []
+pub two : (c : ℕ) → 128 ≤ c → c < 2048 → encode c ≡ (192 + c / 64) ∷ next c ∷ []
 unfolding encode
 two c l h = rw (le-ltb c 128 l, lt-ltb c 2048 h)
 
-three : (c : ℕ) → 2048 ≤ c → c < 65536 → encode c ≡ (224 + c / 4096) ∷ next (c / 64) ∷ next c ∷ []
+pub three : (c : ℕ) → 2048 ≤ c → c < 65536 → encode c ≡ (224 + c / 4096) ∷ next (c / 64) ∷ next c ∷ []
 unfolding encode
 three c l h = let k : 128 ≤ c = omega arith in rw (le-ltb c 128 k, le-ltb c 2048 l, lt-ltb c 65536 h)
 
-four : (c : ℕ) → 65536 ≤ c → encode c ≡ (240 + c / 262144) ∷ next (c / 4096) ∷ next (c / 64) ∷ next c ∷ []
+pub four : (c : ℕ) → 65536 ≤ c → encode c ≡ (240 + c / 262144) ∷ next (c / 4096) ∷ next (c / 64) ∷ next c ∷ []
 unfolding encode
 four c l =
     let j : 128 ≤ c = omega arith in

@@ -5,3 +5,4 @@ pub mod JSChars
 pub mod JSStr
 pub mod Str
 pub mod Wtf8
+pub mod Wtf8Buffer

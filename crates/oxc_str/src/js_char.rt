@@ -3,14 +3,14 @@
 ghost use Rattle.std.specs.Char.{len_utf8};
 ghost use Rattle.std.specs.Char.Escape.{encode_utf16};
 ghost use Rattle.std.specs.Option.{SomeIff};
-ghost use Rattle.std.specs.Prelude.{◌≡◌, ◌≤◌, false, length};
-ghost use Rattle.json_text.specs.Strings.{is_lead, is_trail};
+ghost use Rattle.std.specs.Prelude.{◌≡◌, ◌+◌, ◌%◌, ◌≤◌, ◌&&◌, cond, true, false, encode_utf8, length, take};
+ghost use Rattle.json_text.specs.Strings.{is_lead, is_trail, joined};
 ghost use Rattle.oxc_str.specs.Wtf8.{is_surrogate};
 
 use crate::wtf8::{
-    CODE_POINT_MAX, LEAD_SURROGATE_MAX, LEAD_SURROGATE_MIN, ONE_BYTE_CODE_POINT_MAX,
-    SUPPLEMENTARY_MIN, THREE_BYTE_CODE_POINT_MAX, TRAIL_SURROGATE_MAX, TRAIL_SURROGATE_MIN,
-    TWO_BYTE_CODE_POINT_MAX,
+    CODE_POINT_MAX, CONT_TAG, FOUR_BYTE_TAG, LEAD_SURROGATE_MAX, LEAD_SURROGATE_MIN,
+    ONE_BYTE_CODE_POINT_MAX, SUPPLEMENTARY_MIN, THREE_BYTE_CODE_POINT_MAX, THREE_BYTE_TAG,
+    TRAIL_SURROGATE_MAX, TRAIL_SURROGATE_MIN, TWO_BYTE_CODE_POINT_MAX, TWO_BYTE_TAG,
 };
 use std::marker::Model;
 
@@ -37,6 +37,13 @@ impl From<char> for JSChar {
     fn from(value: char) -> Self {
         JSChar(value as u32)
     }
+}
+
+// The byte that goes on with a code point by its lowest bits.
+fn continuation(bits: u32) -> u8
+    ensures { result ≡ 128 + bits % 64 }
+{
+    CONT_TAG + (bits % 0x40) as u8
 }
 
 impl JSChar {
@@ -88,6 +95,48 @@ impl JSChar {
         if self.0 < SUPPLEMENTARY_MIN { 1 } else { 2 }
     }
 
+    // The code point of a lead and a trail.
+    pub(crate) fn of_pair(lead: JSChar, trail: JSChar) -> Self
+        requires { (is_lead lead && is_trail trail) ≡ true }
+        ensures { result ≡ joined lead trail }
+    {
+        let high = (lead.0 - LEAD_SURROGATE_MIN) * 0x400;
+        JSChar(high + (trail.0 - TRAIL_SURROGATE_MIN) + SUPPLEMENTARY_MIN)
+    }
+
+    // Its bytes in generalized UTF-8, and how many these are.
+    pub(crate) fn encode(self) -> ([u8; 4], usize)
+        ensures bytes { take result.1 result.0 ≡ encode_utf8 self }
+        ensures len { result.1 ≡ len_utf8 self }
+        ensures code_point { self ≤ CODE_POINT_MAX }
+    {
+        let value = self.0;
+        if value <= ONE_BYTE_CODE_POINT_MAX {
+            ([value as u8, 0, 0, 0], 1)
+        } else if value <= TWO_BYTE_CODE_POINT_MAX {
+            let first = TWO_BYTE_TAG + (value / 0x40) as u8;
+            ([first, continuation(value), 0, 0], 2)
+        } else if value <= THREE_BYTE_CODE_POINT_MAX {
+            let first = THREE_BYTE_TAG + (value / 0x1000) as u8;
+            (
+                [first, continuation(value / 0x40), continuation(value), 0],
+                3,
+            )
+        } else {
+            let first = FOUR_BYTE_TAG + (value / 0x4_0000) as u8;
+            let second = continuation(value / 0x1000);
+            (
+                [
+                    first,
+                    second,
+                    continuation(value / 0x40),
+                    continuation(value),
+                ],
+                4,
+            )
+        }
+    }
+
     // The code point of a number that is one.
     pub(crate) fn from_code_point(value: u32) -> Self
         requires { value ≤ CODE_POINT_MAX }
@@ -102,15 +151,20 @@ impl JSChar {
         LEAD_SURROGATE_MIN <= self.0 && self.0 <= TRAIL_SURROGATE_MAX
     }
 
-    pub(crate) fn is_lead_surrogate(self) -> bool
-        ensures { result ≡ is_lead self }
+    // How many surrogates it is.
+    pub(crate) fn surrogate_count(self) -> usize
+        ensures { result ≡ cond (is_surrogate self) 1 0 }
     {
-        LEAD_SURROGATE_MIN <= self.0 && self.0 <= LEAD_SURROGATE_MAX
+        if self.is_surrogate() { 1 } else { 0 }
     }
 
-    pub(crate) fn is_trail_surrogate(self) -> bool
-        ensures { result ≡ is_trail self }
+    // Whether it is a lead, and `next` a trail.
+    pub(crate) fn pairs_with(self, next: JSChar) -> bool
+        ensures { result ≡ (is_lead self && is_trail next) }
     {
-        TRAIL_SURROGATE_MIN <= self.0 && self.0 <= TRAIL_SURROGATE_MAX
+        LEAD_SURROGATE_MIN <= self.0
+            && self.0 <= LEAD_SURROGATE_MAX
+            && TRAIL_SURROGATE_MIN <= next.0
+            && next.0 <= TRAIL_SURROGATE_MAX
     }
 }

@@ -13,6 +13,7 @@ pub mod str;
 #[cfg(test)]
 mod tests;
 pub mod wtf8;
+mod wtf8_buffer;
 
 pub use compact_str::{CompactStr, MAX_INLINE_LEN};
 pub use encode_utf16::EncodeUtf16;
