@@ -3,6 +3,7 @@ pub mod Ident
 pub mod IdentHash
 pub mod JSChars
 pub mod JSStr
+pub mod JSStrBuilder
 pub mod Str
 pub mod Wtf8
 pub mod Wtf8Buffer

@@ -8,9 +8,10 @@ ghost use Rattle.json_text.specs.Json.{string};
 ghost use Rattle.json_text.specs.Units.{units_of};
 ghost use Rattle.oxc_estree.specs.Out.{plain};
 ghost use Rattle.oxc_str.specs.Ident.{ident_text, stored_hash, IsHashed, IsUnhashed};
+ghost use Rattle.oxc_str.specs.JSStr.{js_bytes};
 ghost use Rattle.oxc_str.specs.Str.{text_of};
 
-use crate::{CompactStr, IdentBuildHasher, Str, ident_hash};
+use crate::{CompactStr, IdentBuildHasher, JSStr, Str, ident_hash};
 use arena_core::{alloc_str, concat_strs};
 use bumpalo::Bump;
 use oxc_estree::{ESTree, JsonSafeString, Serializer};
@@ -95,6 +96,13 @@ impl<'a> Ident<'a> {
         ensures { text_of result ≡ ident_text self.now }
     {
         Str::new_const(self.text)
+    }
+
+    /// The text as a JavaScript string.
+    pub fn as_js_str(&self) -> JSStr<'a>
+        ensures { js_bytes result ≡ ident_text self.now }
+    {
+        JSStr::from_str(self.text)
     }
 
     /// A copy of the text.

@@ -8,9 +8,10 @@ ghost use Rattle.std.specs.Prelude.{◌≡◌, ◌↔◌, ◌++◌, [], length, 
 ghost use Rattle.std.specs.Str.{chars};
 ghost use Rattle.std.proofs.Common.{rules};
 ghost use Rattle.json_text.specs.Units.{units_of};
+ghost use Rattle.oxc_str.specs.Str.{text_of};
 ghost use Rattle.oxc_str.specs.Wtf8.{has_lone_surrogate, has_lone_surrogate as lone_surrogate_in, IsWtf8};
 
-use crate::{EncodeUtf16, JSChars};
+use crate::{EncodeUtf16, JSChars, JSStrBuilder, Str};
 use arena_core::alloc_str;
 use bumpalo::Bump;
 use std::alloc::AllocError;
@@ -82,6 +83,17 @@ impl<'a> JSStr<'a> {
         }
     }
 
+    /// `a` followed by `b`, in the arena. A lead surrogate at the end of `a` pairs with a trail at the
+    /// front of `b`.
+    pub fn from_js_strs2_in(arena: &'a Bump, a: JSStr<'_>, b: JSStr<'_>) -> Result<Self, AllocError>
+        ensures { IfOk result (λ both. js_units both ≡ js_units a.entry ++ js_units b.entry) }
+    {
+        let mut builder = JSStrBuilder::with_capacity_in(arena, a.len().saturating_add(b.len()))?;
+        builder.push_js_str(a)?;
+        builder.push_js_str(b)?;
+        builder.into_js_str()
+    }
+
     /// The string of these bytes, which are canonical WTF-8, with the flag that says whether a
     /// surrogate stands alone in them.
     pub fn from_bytes_unchecked(bytes: &'a [u8], has_lone_surrogate: bool) -> Self
@@ -105,6 +117,17 @@ impl<'a> JSStr<'a> {
         } else {
             // Without a lone surrogate WTF-8 is UTF-8.
             Some(unsafe { str::from_utf8_unchecked(self.bytes) })
+        }
+    }
+
+    /// The string as a text, or `None` where a surrogate stands alone in it.
+    pub fn as_arena_str(self) -> Option<Str<'a>>
+        ensures none { IsNone result ↔ (has_lone_surrogate (js_units self.entry) ≡ true) }
+        ensures text { IfSome result (λ text. text_of text ≡ js_bytes self.entry) }
+    {
+        match self.as_str() {
+            Some(text) => Some(Str::new_const(text)),
+            None => None,
         }
     }
 

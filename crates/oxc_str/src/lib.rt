@@ -8,6 +8,8 @@ pub mod ident_hasher;
 pub mod js_char;
 pub mod js_chars;
 pub mod js_str;
+pub mod js_str_builder;
+pub mod js_text;
 pub mod laws;
 pub mod str;
 #[cfg(test)]
@@ -24,4 +26,6 @@ pub use ident_hasher::{IdentBuildHasher, IdentHasher, ident_hash};
 pub use js_char::JSChar;
 pub use js_chars::JSChars;
 pub use js_str::JSStr;
+pub use js_str_builder::JSStrBuilder;
+pub use js_text::JSText;
 pub use str::{ArenaStr, Str};
