@@ -1,16 +1,16 @@
 -- Canonical WTF-8 by its code points.
-use Rattle.std.proofs.Common.{◌≡◌, ℕ, ◌<◌, ◌≤◌, ◌⊎◌, ⊎_elim, inl, inr, List, [], ◌∷◌, ◌++◌, get_or, length, Bool, true, false, ◌&&◌, ◌||◌, flat_map, arith, sym, ap, ◌∙◌, refl, subst, true≢false}
+use Rattle.std.proofs.Common.{◌≡◌, ℕ, ◌<◌, ◌≤◌, ⊎_elim, inl, inr, List, [], ◌∷◌, get_or, length, Bool, true, false, ◌||◌, flat_map, arith, sym, ap, ◌∙◌, refl, subst, true≢false}
 use Rattle.std.specs.Char.Escape.{encode_utf16}
 use Rattle.std.specs.List.{list_any}
 use Rattle.std.specs.Str.{IsUtf8, chars}
 use Rattle.std.proofs.lemmas.Bool.{cases_lt}
 use Rattle.std.proofs.lemmas.Bool.Decides.{nat_tests}
 use lib.Utf8.{scalar, scalars, encodes, scalar_cases}
-use Rattle.json_text.specs.Strings.{is_lead, is_trail}
+use Rattle.json_text.specs.Strings.{is_lead}
 use Rattle.json_text.specs.Units.{are_code_units, units_of}
 use Rattle.oxc_str.specs.Wtf8.{code_points, wtf8, has_lone_surrogate, is_surrogate, IsWtf8, BytesGiveUnitsBack}
 use Rattle.oxc_str.proofs.CodePoints.{IsCodePoint, AreCodePoints, chars-of_encodes, chars_none}
-use Rattle.oxc_str.proofs.CodeUnits.{both, AreUnits, AreUnits-are_code_units, are_code_units-AreUnits, Unsplit, spelled, code_points-of_units, AreUnits-of_code_points, code_points-nil, no_lead, no_pair_by_lead}
+use Rattle.oxc_str.proofs.CodeUnits.{both, AreUnits-are_code_units, are_code_units-AreUnits, Unsplit, spelled, code_points-of_units, AreUnits-of_code_points, code_points-nil, no_lead, no_pair_by_lead}
 
 pub wtf8-is : (us : List ℕ) → wtf8 us ≡ encodes (code_points us)
 unfolding wtf8

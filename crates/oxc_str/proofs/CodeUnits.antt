@@ -1,5 +1,5 @@
 -- Code units and their code points give each other back.
-use Rattle.std.proofs.Common.{◌≡◌, ℕ, ◌<◌, ◌≤◌, ◌+◌, ◌-◌, ◌*◌, ◌/◌, ◌%◌, ◌⊎◌, ⊎_elim, inl, inr, List, [], ◌∷◌, ◌++◌, get_or, Bool, true, false, ◌&&◌, nat_le, nat_lt, flat_map, arith, sym, ap, ◌∙◌, refl, subst, lt-ltb, le-ltb, ltb-true, leb-true, true≢false}
+use Rattle.std.proofs.Common.{◌≡◌, ℕ, ◌<◌, ◌≤◌, ◌+◌, ◌-◌, ◌/◌, ◌%◌, ◌⊎◌, ⊎_elim, inl, inr, List, [], ◌∷◌, ◌++◌, get_or, Bool, true, false, ◌&&◌, nat_le, nat_lt, flat_map, arith, sym, ap, ◌∙◌, refl, subst, lt-ltb, le-ltb, ltb-true, leb-true, true≢false}
 use Rattle.std.specs.Char.Escape.{encode_utf16}
 use Rattle.std.proofs.lemmas.Bool.{cases_lt}
 use Rattle.std.proofs.lemmas.Bool.Decides.{nat_tests}

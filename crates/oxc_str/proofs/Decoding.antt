@@ -1,9 +1,9 @@
 -- The first and the last code point of bytes of generalized UTF-8.
-use Rattle.std.proofs.Common.{◌≡◌, ℕ, suc, ◌<◌, ◌≤◌, ◌+◌, ◌-◌, ◌*◌, ◌/◌, ◌%◌, ◌⊎◌, ⊎_elim, inl, inr, List, [], ◌∷◌, ◌++◌, append_assoc, append-nil, get_or, length, take, drop, Bool, true, false, ◌&&◌, nat_lt, arith, sym, ap, ◌∙◌, refl, subst, lt-ltb, ltb-true}
+use Rattle.std.proofs.Common.{◌≡◌, ℕ, ◌<◌, ◌≤◌, ◌+◌, ◌*◌, ◌%◌, List, [], ◌∷◌, ◌++◌, get_or, length, drop, true, nat_lt, arith, sym, ap, ◌∙◌, refl, subst, lt-ltb, ltb-true}
 use Rattle.std.specs.Str.{chars}
 use lib.Utf8.{encode, encodes}
-use Rattle.oxc_str.specs.JSChars.{are_code_points, IsGeneralizedUtf8, BeginsWith, EndsFrom}
-use Rattle.oxc_str.proofs.CodePoints.{IsCodePoint, AreCodePoints, Follows, Shape, of1, of2, of3, of4, shape, chars-nil, chars_first, chars-of_encodes}
+use Rattle.oxc_str.specs.JSChars.{are_code_points, IsGeneralizedUtf8, BeginsWith}
+use Rattle.oxc_str.proofs.CodePoints.{AreCodePoints, Shape, of1, of2, of3, of4, shape, chars_first, chars-of_encodes}
 use Rattle.oxc_str.specs.Wtf8.{IsWtf8}
 use Rattle.oxc_str.proofs.Canonical.{points}
 use Rattle.oxc_str.proofs.CodeUnits.{both}

@@ -1,10 +1,10 @@
 -- What is pushed at once: one code point, a text, nothing.
-use Rattle.std.proofs.Common.{◌≡◌, ℕ, suc, ◌<◌, ◌≤◌, ◌+◌, List, [], ◌∷◌, ◌++◌, append-nil, length, take, flat_map, Bool, true, false, not, ◌||◌, nat_eq, cond, arith, sym, ap, ◌∙◌, refl, subst, true≢false}
+use Rattle.std.proofs.Common.{◌≡◌, ℕ, ◌≤◌, ◌+◌, List, [], ◌∷◌, append-nil, length, flat_map, Bool, true, false, not, ◌||◌, nat_eq, cond, arith, sym, ap, ◌∙◌, refl, subst, true≢false}
 use Rattle.std.specs.Char.Escape.{encode_utf16}
 use Rattle.std.specs.List.{list_any}
 use Rattle.std.specs.Str.{chars, IsUtf8}
 use Rattle.std.proofs.lemmas.Bool.Decides.{nat_tests}
-use lib.Utf8.{encode, encodes}
+use lib.Utf8.{encode}
 use Rattle.json_text.specs.Units.{units_of}
 use Rattle.oxc_str.specs.Wtf8.{has_lone_surrogate, is_surrogate, IsWtf8}
 use Rattle.oxc_str.specs.Wtf8Buffer.{surrogate_count, IsCounted}

@@ -1,16 +1,16 @@
 -- Bytes of WTF-8 after one another: as they are, or with a lead and a trail joined where they meet.
-use Rattle.std.proofs.Common.{◌≡◌, ℕ, suc, ◌<◌, ◌≤◌, ◌+◌, ◌-◌, ◌*◌, ◌/◌, ◌%◌, inl, inr, List, [], ◌∷◌, ◌++◌, append_assoc, append-nil, length, length-append, get_or, take, drop, flat_map, Bool, true, false, ◌&&◌, cond, arith, sym, ap, ap₂, ◌∙◌, refl, subst}
+use Rattle.std.proofs.Common.{◌≡◌, ℕ, ◌<◌, ◌≤◌, ◌+◌, ◌-◌, ◌/◌, ◌%◌, inr, List, [], ◌∷◌, ◌++◌, append_assoc, append-nil, length, length-append, get_or, take, drop, flat_map, Bool, true, false, cond, arith, sym, ap, ap₂, ◌∙◌, refl, subst}
 use Rattle.std.specs.Char.Escape.{encode_utf16}
 use Rattle.std.specs.Str.{chars}
 use Rattle.std.proofs.Math.Seq.{take-append_seam, drop-append_seam}
 use Rattle.std.proofs.lemmas.Bool.Decides.{nat_tests}
 use Rattle.std.proofs.lemmas.Str.{length-encode, len_utf8_bounds}
 use lib.Utf8.{encode, encodes}
-use Rattle.json_text.specs.Strings.{is_lead, is_trail, joined}
+use Rattle.json_text.specs.Strings.{is_lead, is_trail}
 use Rattle.json_text.specs.Units.{units_of}
 use Rattle.oxc_str.specs.Wtf8.{is_surrogate, IsWtf8}
 use Rattle.oxc_str.specs.Wtf8Buffer.{surrogate_count, last_or_0, IsCounted, StandApart, JoinTo}
-use Rattle.oxc_str.proofs.CodePoints.{IsCodePoint, AreCodePoints, AreCodePoints-append, three, chars-of_encodes}
+use Rattle.oxc_str.proofs.CodePoints.{AreCodePoints, AreCodePoints-append, three, chars-of_encodes}
 use Rattle.oxc_str.proofs.CodeUnits.{both, Unsplit, is_pair, lead_range, trail_range, no_lead, no_trail, no_pair_by_lead, no_pair_by_trail, one_unit, two_units}
 use Rattle.oxc_str.proofs.Canonical.{Points, points, IsWtf8-points}
 use Rattle.oxc_str.proofs.Backwards.{encodes-append}

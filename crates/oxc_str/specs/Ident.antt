@@ -1,10 +1,8 @@
 -- What an `Ident` is to a contract: a text, as bytes of UTF-8, and a stored hash.
-use Rattle.std.specs.Prelude.{◌≡◌, ◌↔◌, ℕ, Bool, IsTrue, List, [], ◌∷◌}
-use Rattle.std.specs.Hash.{HashWrites}
-use Rattle.std.specs.List.{fold}
+use Rattle.std.specs.Prelude.{◌≡◌, ℕ, List}
 use Rattle.oxc_str.specs.declared.ident.Ident.{Ident}
 use Rattle.oxc_str.specs.declared.ident_hasher.IdentHasher.{IdentHasher}
-use Rattle.oxc_str.specs.IdentHash.{ident_hash, written}
+use Rattle.oxc_str.specs.IdentHash.{ident_hash}
 
 abbrev pub ident_text : Ident → List ℕ
 ident_text i = i.text.now

@@ -1,5 +1,5 @@
 -- The hash of an identifier's bytes, and the state that they make of a hasher. The numbers are those of oxc's `ident_hasher`.
-use Rattle.std.specs.Prelude.{ℕ, ◌+◌, ◌-◌, ◌*◌, ◌/◌, ◌%◌, ◌^◌, Bool, cond, nat_eq, nat_lt, List, length, slice_index, bit_xor}
+use Rattle.std.specs.Prelude.{ℕ, ◌+◌, ◌-◌, ◌*◌, ◌/◌, ◌%◌, ◌^◌, cond, nat_eq, nat_lt, List, length, slice_index, bit_xor}
 use Rattle.std.specs.Int.{rotate_left, w32}
 
 abbrev pub seed_1 : ℕ

@@ -1,9 +1,8 @@
 -- What a `JSStr` is to a contract: its code units.
-use Rattle.std.specs.Prelude.{ℕ, Bool, cond, List, [], ◌∷◌, ◌++◌, length, encode_utf8, flat_map}
+use Rattle.std.specs.Prelude.{ℕ, cond, List}
 use Rattle.std.specs.Hash as fed
-use Rattle.json_text.specs.Strings.{unit_escape}
 use Rattle.json_text.specs.Units.{units_of}
-use Rattle.oxc_str.specs.Wtf8.{has_lone_surrogate, is_surrogate}
+use Rattle.oxc_str.specs.Wtf8.{has_lone_surrogate}
 use Rattle.oxc_str.specs.declared.js_str.JSStr.{JSStr}
 
 -- the bytes of WTF-8

@@ -1,5 +1,5 @@
 -- Text that grows, as bytes of WTF-8.
-use Rattle.std.specs.Prelude.{◌≡◌, ℕ, ◌+◌, ◌<◌, Bool, true, false, ◌&&◌, cond, List, [], ◌∷◌, ◌++◌, take, length, slice_index_or}
+use Rattle.std.specs.Prelude.{◌≡◌, ℕ, ◌+◌, ◌<◌, true, false, ◌&&◌, cond, List, [], ◌∷◌, ◌++◌, take, length, slice_index_or}
 use Rattle.std.specs.Str.{chars}
 use Rattle.json_text.specs.Strings.{is_lead, is_trail, joined}
 use Rattle.oxc_str.specs.Wtf8.{is_surrogate, IsWtf8}

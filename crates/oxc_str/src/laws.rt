@@ -5,12 +5,14 @@ ghost use Rattle.std.specs.Prelude.{◌≡◌, ◌↔◌, IsTrue};
 ghost use Rattle.oxc_str.specs.Equality.{ComparesBy};
 ghost use Rattle.oxc_str.specs.Ident.{ident_text, stored_hash, IsHashed, IsUnhashed};
 ghost use Rattle.oxc_str.specs.IdentHash as spec;
+ghost use Rattle.oxc_str.specs.JSStr.{js_units};
 ghost use Rattle.oxc_str.specs.Str.{text_of};
 ghost use Rattle.oxc_str.specs.Wtf8.{BytesGiveUnitsBack};
 ghost use Rattle.oxc_str.specs.declared.ident.Ident.{Ident as IdentValue};
+ghost use Rattle.oxc_str.specs.declared.js_str.JSStr.{JSStr as StringValue};
 ghost use Rattle.oxc_str.specs.declared.ident_hasher.IdentHasher.{IdentHasher as HasherState};
 
-use crate::{CompactStr, Ident, IdentHasher, Str};
+use crate::{CompactStr, Ident, IdentHasher, JSStr, JSText, Str};
 use std::hash::{Hash, Hasher};
 
 /// Two [`Str`]s are equal exactly where their texts are.
@@ -49,4 +51,19 @@ pub fn idents_hash_as_their_texts()
 /// the same bytes.
 pub fn bytes_give_units_back()
     ensures { BytesGiveUnitsBack }
+{}
+
+/// Two [`JSStr`]s are equal exactly where their code units are.
+pub fn js_strs_compare_by_units()
+    ensures { ComparesBy js_units ⟦<JSStr<'static> as PartialEq>⟧.eq }
+{}
+
+/// Equal [`JSStr`]s hash alike, with any hasher.
+pub fn equal_js_strs_hash_alike()
+    ensures { (a b : StringValue) → IsTrue (⟦<JSStr<'static> as PartialEq>⟧.eq a b) → ⟦<JSStr<'static> as Hash>⟧.hash_input a ≡ ⟦<JSStr<'static> as Hash>⟧.hash_input b }
+{}
+
+/// Two [`JSText`]s are equal exactly where their code units are.
+pub fn js_texts_compare_by_units()
+    ensures { ComparesBy (λ t. t) ⟦<JSText as PartialEq>⟧.eq }
 {}

@@ -1,4 +1,4 @@
-use Rattle.std.proofs.Common.{rules, ◌≡◌, ◌≤◌, ◌+◌, ◌*◌, ◌%◌, get_or, arith}
+use Rattle.std.proofs.Common.{rules, ◌≡◌, ◌+◌, ◌*◌, ◌%◌, get_or, arith}
 use Rattle.oxc_str.proofs.Decoding.{opening}
 use Rattle.oxc_str.proofs.js_chars.first_char.Goals as goal
 

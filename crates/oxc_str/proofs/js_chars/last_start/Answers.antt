@@ -1,5 +1,5 @@
-use Rattle.std.proofs.Common.{◌<◌, ◌≤◌, inl, inr, arith}
-use Rattle.oxc_str.proofs.Backwards.{ending, last_lead, goes_on, begins_here}
+use Rattle.std.proofs.Common.{inl, inr, arith}
+use Rattle.oxc_str.proofs.Backwards.{ending, goes_on, begins_here}
 use Rattle.oxc_str.proofs.js_chars.last_start.Goals as goal
 
 pub loop-start-init : goal.loop-start-init

@@ -1,4 +1,4 @@
-use Rattle.std.proofs.Common.{ap, length, subst, sym, ◌∙◌, Bool, IsTrue}
+use Rattle.std.proofs.Common.{ap, length, sym, ◌∙◌}
 use Rattle.std.proofs.lemmas.Bool.{eqb-true, eq-eqb}
 use Rattle.oxc_str.proofs.Canonical.{units_of-nil, bytes-nil}
 use Rattle.oxc_str.proofs.js_str.JSStr.is_empty.Goals as goal

@@ -1,6 +1,5 @@
-use Rattle.std.proofs.Common.{◌≡◌, ◌++◌, length, length-append, arith, ap, sym, subst, ◌∙◌, List, ℕ}
+use Rattle.std.proofs.Common.{◌≡◌, ◌++◌, length-append, arith, ap, ◌∙◌, List, ℕ}
 use Rattle.json_text.specs.Units.{units_of}
-use Rattle.oxc_str.specs.Wtf8Buffer.{IsCounted}
 use Rattle.oxc_str.proofs.Seams.{apart_after, seam_after, count_le}
 use Rattle.oxc_str.proofs.wtf8_buffer.Wtf8Buffer.append.Goals as goal
 
