@@ -5,4 +5,5 @@ pub mod Decoding
 pub mod Lengths
 pub mod Seams
 pub mod Pushes
+pub mod Patterns
 pub mod Backwards

@@ -136,7 +136,11 @@ fn begins_with_bytes(haystack: &[u8], needle: &[u8]) -> bool
 fn ends_with_bytes(haystack: &[u8], needle: &[u8]) -> bool
     ensures { IsTrue result ↔ OccursAtEnd haystack.now needle.now }
 {
-    needle.len() <= haystack.len() && &haystack[haystack.len() - needle.len()..] == needle
+    if haystack.len() < needle.len() {
+        return false;
+    }
+    let (_, end) = haystack.split_at(haystack.len() - needle.len());
+    end == needle
 }
 
 /// A test of characters. It isn't called for a lone surrogate.
