@@ -6,4 +6,5 @@ pub mod Lengths
 pub mod Seams
 pub mod Pushes
 pub mod Patterns
+pub mod Showing
 pub mod Backwards

@@ -1,5 +1,5 @@
 -- The first and the last match.
-use Rattle.std.proofs.Common.{◌≡◌, ℕ, suc, ◌<◌, ◌≤◌, ◌+◌, ◌-◌, ◌↔◌, IsTrue, List, [], ◌∷◌, ◌++◌, append_assoc, append-nil, true≢false, length, length-append, take, drop, get_or, Bool, true, false, Option, Some, None, arith, sym, ap, ◌∙◌, refl, subst}
+use Rattle.std.proofs.Common.{◌≡◌, ℕ, ◌<◌, ◌≤◌, ◌+◌, ◌-◌, ◌↔◌, IsTrue, List, [], ◌∷◌, ◌++◌, append_assoc, append-nil, true≢false, length, length-append, take, drop, get_or, Bool, true, false, Option, Some, None, arith, sym, ap, ◌∙◌, refl, subst}
 use Rattle.std.specs.Char.{IsScalar}
 use Rattle.std.specs.Str.{chars}
 use Rattle.std.proofs.lemmas.List.Prefix.{front_from_reads, end_from_reads}
@@ -8,7 +8,7 @@ use Rattle.std.proofs.lemmas.Str.{length-encode, len_utf8_bounds}
 use Rattle.std.proofs.Math.Seq.{take-append_seam, drop-append_seam}
 use lib.Utf8.{encode, encodes}
 use Rattle.memchr.specs.Find.{OccursAt, FindsNeedle, FindsLastNeedle}
-use Rattle.oxc_str.specs.JSStrPattern.{IsLeast, IsGreatest, OccursAtEnd, PassesAt, PassesAtEnd, Answers}
+use Rattle.oxc_str.specs.JSStrPattern.{IsLeast, IsGreatest, OccursAtEnd, PassesAt, Answers}
 use Rattle.oxc_str.proofs.Backwards.{encodes-append}
 
 -- ---- a text

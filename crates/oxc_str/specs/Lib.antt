@@ -4,6 +4,7 @@ pub mod IdentHash
 pub mod JSChars
 pub mod JSStr
 pub mod JSStrBuilder
+pub mod JSStrDisplay
 pub mod JSStrPattern
 pub mod Str
 pub mod Wtf8

@@ -8,8 +8,7 @@ ghost use Rattle.oxc_str.specs.JSStr.{js_bytes};
 ghost use Rattle.oxc_str.specs.JSStrDisplay.{shown, shown_char, shown_string};
 
 use crate::{JSChar, JSStr};
-use std::fmt;
-use std::str;
+use std::{fmt, str};
 
 /// Shows a [`JSStr`]: each character as it is, and each surrogate that stands alone as `\u` and four
 /// hexadecimal digits in lower case. It is for people: two strings may be shown alike.

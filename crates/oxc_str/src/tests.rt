@@ -187,6 +187,8 @@ fn a_lone_surrogate_stays(rt: HostRuntime) -> Result<(), Fail> {
     assert!(rt; chars.next_back() == JSChar::from_u32(0xD800));
     assert!(rt; chars.next() == Some(JSChar::from('a')));
     assert!(rt; chars.next().is_none() && chars.next_back().is_none());
+    let shown = format!(in rt.alloc(); "{}", lone.display())?;
+    assert_eq!(rt; shown.as_str(), "a\\ud800b");
     let again = JSStr::from_bytes_unchecked(lone.as_bytes(), lone.has_lone_surrogate());
     assert!(rt; again == lone);
     Ok(())
@@ -270,5 +272,35 @@ fn an_arena_without_room_refuses_strings(rt: HostRuntime) -> Result<(), Fail> {
     let mut builder = JSStrBuilder::new_in(&arena);
     assert!(rt; builder.push('a').is_err());
     assert!(rt; builder.into_js_str()?.is_empty());
+    Ok(())
+}
+
+#[test]
+fn texts_are_found(rt: HostRuntime) -> Result<(), Fail> {
+    let s = JSStr::from_str("abcab");
+    assert_eq!(rt; s.find(Text("ab")), Some(0));
+    assert_eq!(rt; s.rfind(Text("ab")), Some(3));
+    assert_eq!(rt; s.find(Text("ac")), None);
+    assert_eq!(rt; s.rfind(Text("")), Some(5));
+    assert!(rt; s.contains(Text("ca")) && !s.contains(Text("cb")));
+    assert!(rt; s.starts_with(Text("abc")) && !s.starts_with(Text("bc")));
+    assert!(rt; s.ends_with(Text("cab")) && !s.ends_with(Text("ca")));
+    Ok(())
+}
+
+#[test]
+fn characters_are_found(rt: HostRuntime) -> Result<(), Fail> {
+    let arena = Bump::new(rt.alloc());
+    let s = string_of(&arena, &[0x61, 0xD800, 0x62, 0xE9])?;
+    assert_eq!(rt; s.find('b'), Some(4));
+    assert_eq!(rt; s.rfind('\u{E9}'), Some(5));
+    assert!(rt; s.contains('a') && !s.contains('c'));
+    assert!(rt; s.starts_with('a') && !s.starts_with('b'));
+    assert!(rt; s.ends_with('\u{E9}') && !s.ends_with('b'));
+    assert_eq!(rt; s.find(Pred(|c: char| c != 'a')), Some(4));
+    assert_eq!(rt; s.rfind(Pred(|c: char| c < 'c')), Some(4));
+    assert!(rt; s.contains(Pred(|c: char| c == 'b')));
+    assert!(rt; s.starts_with(Pred(|c: char| c == 'a')));
+    assert!(rt; !s.ends_with(Pred(|c: char| c == 'a')));
     Ok(())
 }

@@ -1,4 +1,4 @@
-use Rattle.std.proofs.Common.{sym, subst, ◌∙◌, ◌≤◌, ◌+◌, length, arith}
+use Rattle.std.proofs.Common.{sym, subst, ◌∙◌, arith}
 use Rattle.std.proofs.lemmas.Str.{length-encode}
 use Rattle.oxc_str.specs.JSStr.{js_bytes}
 use Rattle.oxc_str.specs.JSStrPattern.{Answers}

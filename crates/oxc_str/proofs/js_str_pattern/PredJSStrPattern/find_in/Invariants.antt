@@ -1,4 +1,3 @@
-use Rattle.std.proofs.Common.{length}
 use Rattle.oxc_str.specs.JSStr.{js_bytes}
 use Rattle.oxc_str.specs.contracts.js_str_pattern.PredJSStrPattern.F-Fn as F-Fn
 use Rattle.oxc_str.proofs.Patterns.{FromFront}

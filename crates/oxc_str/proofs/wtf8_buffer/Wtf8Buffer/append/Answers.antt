@@ -16,7 +16,9 @@ invariant_of-self-in-None g c =
 pub returns-in_ok-extend_from_slice-in-None-clause-ok : goal.returns-in_ok-extend_from_slice-in-None-clause-ok
 returns-in_ok-extend_from_slice-in-None-clause-ok g c =
     let p = apart_after c.self.inside.bytes.items c.args.more.now _ _ _ c.as_slice.ensures.value c.self.invariant c.requires.text c.requires.counted c.in-None.ensures in
-    ap units_of c.in_ok-extend_from_slice-in-None.ensures.items ∙ p.units_are ∙ ap (λ (l : List ℕ). l ++ units_of c.args.more.now) c.self.view_is
+    let new : units_of c.extend_from_slice.new.self.items ≡ units_of c.self.inside.bytes.items ++ units_of c.args.more.now =
+    rw c.in_ok-extend_from_slice-in-None.ensures.items p.units_are in
+    new ∙ ap (λ (l : List ℕ). l ++ units_of c.args.more.now) c.self.view_is
 
 pub join-requires-clause-end : goal.join-requires-clause-end
 join-requires-clause-end g c =
