@@ -3,7 +3,7 @@
 -- and a code point has one to four bytes, by the pattern of UTF-8.
 use Rattle.std.specs.Prelude.{◌≡◌, ℕ, Bool, true, false, ◌&&◌, nat_le, nat_lt, List, [], ◌∷◌}
 use Rattle.std.specs.List.{list_any}
-use Rattle.std.specs.Str.{encode_utf8_all}
+use Rattle.std.specs.Str.{chars, encode_utf8_all}
 use Rattle.json_text.specs.Strings.{is_lead, is_trail, joined}
 use Rattle.json_text.specs.Units.{are_code_units, units_of}
 
@@ -32,3 +32,7 @@ pub record IsWtf8 (bytes : List ℕ) : Type 0 where
 -- the bytes of code units give them back, and are WTF-8
 abbrev pub BytesGiveUnitsBack : Type 0
 BytesGiveUnitsBack = (us : List ℕ) → are_code_units us ≡ true → IsWtf8 (wtf8 us) × (units_of (wtf8 us) ≡ us)
+
+-- the code points that the bytes of code units spell are those of the units
+abbrev pub BytesSpellCodePoints : Type 0
+BytesSpellCodePoints = (bytes : List ℕ) → IsWtf8 bytes → chars bytes ≡ code_points (units_of bytes)

@@ -7,7 +7,7 @@ ghost use Rattle.oxc_str.specs.Ident.{ident_text, stored_hash, IsHashed, IsUnhas
 ghost use Rattle.oxc_str.specs.IdentHash as spec;
 ghost use Rattle.oxc_str.specs.JSStr.{js_units};
 ghost use Rattle.oxc_str.specs.Str.{text_of};
-ghost use Rattle.oxc_str.specs.Wtf8.{BytesGiveUnitsBack};
+ghost use Rattle.oxc_str.specs.Wtf8.{BytesGiveUnitsBack, BytesSpellCodePoints};
 ghost use Rattle.oxc_str.specs.declared.ident.Ident.{Ident as IdentValue};
 ghost use Rattle.oxc_str.specs.declared.js_str.JSStr.{JSStr as StringValue};
 ghost use Rattle.oxc_str.specs.declared.ident_hasher.IdentHasher.{IdentHasher as HasherState};
@@ -66,4 +66,10 @@ pub fn equal_js_strs_hash_alike()
 /// Two [`JSText`]s are equal exactly where their code units are.
 pub fn js_texts_compare_by_units()
     ensures { ComparesBy (λ t. t) ⟦<JSText as PartialEq>⟧.eq }
+{}
+
+/// The code points that bytes of WTF-8 spell, which [`JSStr::chars`] gives, are those of the code units:
+/// a lead surrogate that a trail surrogate follows is one code point with it, and each other unit is one.
+pub fn bytes_spell_code_points()
+    ensures { BytesSpellCodePoints }
 {}
