@@ -1,2 +1,11 @@
 pub mod Equality
+pub mod Ident
+pub mod IdentHash
+pub mod JSChars
+pub mod JSStr
+pub mod JSStrBuilder
+pub mod JSStrDisplay
+pub mod JSStrPattern
 pub mod Str
+pub mod Wtf8
+pub mod Wtf8Buffer
