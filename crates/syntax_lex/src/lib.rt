@@ -4,5 +4,9 @@
 
 pub mod identifier;
 pub mod keyword;
+pub mod line_terminator;
+pub mod number;
+pub mod operator;
+pub mod precedence;
 #[cfg(test)]
 mod tests;
