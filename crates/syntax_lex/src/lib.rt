@@ -2,6 +2,7 @@
 //! they bind, bases of numbers, and the editions of the language.
 #![tactic(auto)]
 
+pub mod es_target;
 pub mod identifier;
 pub mod keyword;
 pub mod line_terminator;
