@@ -1,8 +1,8 @@
 //! Format controls, white space and identifier names (ECMA-262, 12.1, 12.2 and 12.7).
 
 ghost use Rattle.std.specs.List.{list_all, list_any};
-ghost use Rattle.std.specs.Prelude.{◌&&◌, ◌<◌, ◌≡◌, ◌≤◌, ℕ, not, slice_index};
-ghost use Rattle.std.specs.Str.{chars};
+ghost use Rattle.std.specs.Prelude.{◌&&◌, ◌<◌, ◌≡◌, ◌≤◌, length, not, slice_index, take, true};
+ghost use Rattle.std.specs.Str.{IsAscii, chars};
 ghost use Rattle.syntax_lex.specs.Identifier as spec;
 ghost use Rattle.syntax_lex.specs.WhiteSpace as space;
 
@@ -217,12 +217,68 @@ fn is_identifier_name_impl(name: &str, patched: bool) -> bool
     }
 }
 
-/// Whether an identifier name may go on with this text.
+/// Whether an identifier name may go on with this text: by blocks of bytes in front, then by characters.
 fn are_taken_parts(text: &str, patched: bool) -> bool
+    ensures { result ≡ list_all (spec.is_taken_part patched) (chars text.now) }
+{
+    let len = ascii_parts_len(text.as_bytes());
+    are_taken_characters(&text[len..], patched)
+}
+
+fn are_taken_characters(text: &str, patched: bool) -> bool
     ensures { result ≡ list_all (spec.is_taken_part patched) (chars text.now) }
 {
     for c in text.chars() {
         if !is_taken_part(c, patched) {
+            return false;
+        }
+    }
+    true
+}
+
+/// The length of a run of ASCII parts in front, as far as blocks of eight bytes and then one of four show it.
+fn ascii_parts_len(bytes: &[u8]) -> usize
+    ensures within { result ≤ length bytes.now }
+    ensures parts { list_all spec.is_ascii_part (take result bytes.now) ≡ true }
+{
+    let mut len = 0;
+    while begins_with_8_parts(&bytes[len..]) {
+        len += 8;
+    }
+    if begins_with_4_parts(&bytes[len..]) {
+        len += 4;
+    }
+    len
+}
+
+/// Whether the first eight bytes are ASCII parts. Their bits together show whether they are ASCII.
+fn begins_with_8_parts(bytes: &[u8]) -> bool
+    ensures { result ≡ true → spec.BeginsWithParts 8 bytes.now }
+{
+    match bytes {
+        [a, b, c, d, e, f, g, h, ..] => {
+            (a | b | c | d | e | f | g | h).is_ascii() && are_ascii_parts(&bytes[..8])
+        }
+        _ => false,
+    }
+}
+
+/// The same of the first four bytes.
+fn begins_with_4_parts(bytes: &[u8]) -> bool
+    ensures { result ≡ true → spec.BeginsWithParts 4 bytes.now }
+{
+    match bytes {
+        [a, b, c, d, ..] => (a | b | c | d).is_ascii() && are_ascii_parts(&bytes[..4]),
+        _ => false,
+    }
+}
+
+fn are_ascii_parts(bytes: &[u8]) -> bool
+    requires { IsAscii bytes.now }
+    ensures { result ≡ list_all spec.is_ascii_part bytes.now }
+{
+    for byte in bytes {
+        if !is_identifier_part_ascii(*byte as char) {
             return false;
         }
     }

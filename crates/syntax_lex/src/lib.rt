@@ -3,6 +3,7 @@
 #![tactic(auto)]
 
 pub mod es_target;
+mod estree;
 pub mod identifier;
 pub mod keyword;
 pub mod line_terminator;
