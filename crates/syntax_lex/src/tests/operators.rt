@@ -4,6 +4,7 @@ use crate::operator::{
     AssignmentOperator, BinaryOperator, LogicalOperator, UnaryOperator, UpdateOperator,
 };
 use crate::precedence::{GetPrecedence, Precedence};
+use oxc_estree::{CompactFormatter, ConfigFixes, ESTree, ESTreeSerializer};
 use std::alloc::{AllocError, Global};
 use std::test::Fail;
 
@@ -281,5 +282,67 @@ fn bases_and_targets(rt: HostRuntime) -> Result<(), Fail> {
     ] {
         assert_eq!(rt; format!(in rt.alloc(); "{target}")?.as_str(), word);
     }
+    Ok(())
+}
+
+/// What is said of a word for an edition.
+fn told(alloc: Global, word: &str) -> Result<String, AllocError> {
+    match ESTarget::from_str(alloc, word) {
+        Ok(target) => format!(in alloc; "{target}"),
+        Err(fault) => format!(in alloc; "{fault}"),
+    }
+}
+
+#[test]
+fn words_for_editions(rt: HostRuntime) -> Result<(), Fail> {
+    let alloc = rt.alloc();
+    for (word, expected) in [
+        ("es6", "es2015"),
+        ("ES6", "es2015"),
+        ("es2015", "es2015"),
+        ("ES2016", "es2016"),
+        ("eS2021", "es2021"),
+        ("es2026", "es2026"),
+        ("ESNext", "esnext"),
+        ("es5", "ES5 is not yet supported."),
+        ("ES5", "ES5 is not yet supported."),
+        ("ES7", "Invalid target \"ES7\"."),
+        ("es2027", "Invalid target \"es2027\"."),
+        ("", "Invalid target \"\"."),
+    ] {
+        assert_eq!(rt; told(alloc, word)?.as_str(), expected);
+    }
+    Ok(())
+}
+
+fn written<T: ESTree>(alloc: Global, value: &T) -> Result<String, AllocError> {
+    let mut serializer = ESTreeSerializer::<ConfigFixes, CompactFormatter>::new(
+        alloc, false, false,
+    )?;
+    value.serialize(&mut serializer)?;
+    Ok(serializer.into_string())
+}
+
+#[test]
+fn operators_are_written_as_strings(rt: HostRuntime) -> Result<(), Fail> {
+    let alloc = rt.alloc();
+    let shift = AssignmentOperator::ShiftRightZeroFill;
+    assert_eq!(rt; written(alloc, &shift)?.as_str(), "\">>>=\"");
+    assert_eq!(rt;
+        written(alloc, &BinaryOperator::Instanceof)?.as_str(),
+        "\"instanceof\""
+    );
+    assert_eq!(rt;
+        written(alloc, &LogicalOperator::Coalesce)?.as_str(),
+        "\"??\""
+    );
+    assert_eq!(rt;
+        written(alloc, &UnaryOperator::BitwiseNot)?.as_str(),
+        "\"~\""
+    );
+    assert_eq!(rt;
+        written(alloc, &UpdateOperator::Decrement)?.as_str(),
+        "\"--\""
+    );
     Ok(())
 }
