@@ -1,5 +1,5 @@
 -- Identifier names by blocks of bytes.
-use Rattle.std.proofs.Common.{◌≡◌, ℕ, ◌+◌, ◌-◌, ◌<◌, ◌≤◌, Bool, true, false, not, ◌&&◌, ◌||◌, nat_eq, nat_lt, bit_or, List, [], ◌∷◌, ◌++◌, length, take, take-add, take_all, drop, get_or, lit≤, refl, sym, ◌∙◌, ap, subst, arith, IsUtf8, chars}
+use Rattle.std.proofs.Common.{◌≡◌, ℕ, ◌+◌, ◌-◌, ◌<◌, ◌≤◌, Bool, true, false, ◌&&◌, nat_eq, nat_lt, bit_or, List, [], ◌∷◌, ◌++◌, length, take, take-add, take_all, drop, get_or, lit≤, refl, sym, ◌∙◌, ap, subst, arith, IsUtf8, chars}
 use Rattle.std.proofs.lemmas.Bool.{eqb-true, false_from_ne_true, ltb-true}
 use Rattle.std.proofs.lemmas.List.{length-drop, take-append-drop}
 use Rattle.std.proofs.lemmas.List.Folds.{list_all-append}
@@ -8,7 +8,7 @@ use Rattle.std.proofs.lemmas.Str.{IsCharBoundary-from_take, IsUtf8-from_ascii, c
 use Rattle.std.proofs.lemmas.Str.Ascii.{IsAscii-cons, IsAscii-nil}
 use Rattle.std.specs.List.{list_all}
 use Rattle.std.specs.Str.{IsAscii, IsCharBoundary}
-use Rattle.syntax_lex.specs.Identifier.{BeginsWithParts, is_ascii_part, is_identifier_part, is_katakana_middle_dot, is_taken, is_taken_part}
+use Rattle.syntax_lex.specs.Identifier.{BeginsWithParts, is_ascii_part, is_identifier_part, is_taken, is_taken_part}
 
 both_true : (a b : Bool) → (a && b) ≡ true → (a ≡ true) × (b ≡ true)
 both_true true true both = (refl, refl)

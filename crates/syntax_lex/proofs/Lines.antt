@@ -1,5 +1,5 @@
 -- The parts into which line terminators divide a text.
-use Rattle.std.proofs.Common.{◌≡◌, ◌≢◌, ℕ, zero, suc, ◌+◌, ◌-◌, ◌≤◌, Bool, true, false, not, ◌&&◌, ◌||◌, nat_eq, List, [], ◌∷◌, ◌++◌, length, take, drop, map, flat_map, refl, sym, ◌∙◌, ap, subst, inl, inr, arith, IsUtf8, chars}
+use Rattle.std.proofs.Common.{◌≡◌, ◌≢◌, ℕ, ◌+◌, ◌≤◌, Bool, true, false, not, ◌&&◌, ◌||◌, nat_eq, List, [], ◌∷◌, ◌++◌, length, take, drop, map, flat_map, refl, sym, ◌∙◌, ap, subst, inl, inr, arith, IsUtf8, chars}
 use Rattle.std.proofs.lemmas.Bool.{cases_Bool, eqb-true}
 use Rattle.std.proofs.lemmas.List.{append_assoc, append_cancel_right, length-append, length-drop, take-append-drop}
 use Rattle.std.proofs.lemmas.List.Folds.{list_any-append}
@@ -9,7 +9,7 @@ use Rattle.std.specs.Char.{len_utf8}
 use Rattle.std.specs.Cmp.Lexicographic.{pointwise}
 use Rattle.std.specs.List.{list_all, list_any, slice_range}
 use Rattle.std.specs.Str.{IsCharBoundary, encode_utf8_all}
-use Rattle.syntax_lex.specs.LineTerminator.{Part, are_ended, before_parts, before_terminator, begins_with_line_feed, is_divided, is_line, is_line_terminator, is_terminator, lines_of, parts_of, whole}
+use Rattle.syntax_lex.specs.LineTerminator.{Part, are_ended, before_parts, begins_with_line_feed, is_divided, is_line, is_line_terminator, is_terminator, lines_of, parts_of, whole}
 use lib.Utf8.{encode}
 
 abbrev part : List ℕ → List ℕ → Part

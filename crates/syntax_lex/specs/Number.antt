@@ -3,7 +3,7 @@ use Rattle.std.specs.Prelude.{Bool, true, false}
 use Rattle.syntax_lex.specs.declared.number.BigintBase.{BigintBase}
 use Rattle.syntax_lex.specs.declared.number.BigintBase.TheVariants as bigint
 use Rattle.syntax_lex.specs.declared.number.NumberBase.{NumberBase}
-use Rattle.syntax_lex.specs.declared.number.NumberBase.TheVariants.{Float, Decimal, Binary, Octal, Hex}
+use Rattle.syntax_lex.specs.declared.number.NumberBase.TheVariants.{Float, Decimal}
 
 abbrev pub is_number_base_10 : NumberBase → Bool
 is_number_base_10 Float = true

@@ -1,7 +1,6 @@
-use Rattle.std.proofs.Common.{◌≡◌, ◌∙◌, ◌&&◌, true, false, sym, refl, get_or, length, take, arith}
+use Rattle.std.proofs.Common.{◌∙◌, sym, refl, get_or}
 use Rattle.std.proofs.lemmas.Bool.{lt-ltb}
 use Rattle.std.proofs.lemmas.List.Folds.{list_all_at, list_all_more}
-use Rattle.std.specs.List.{list_all}
 use Rattle.syntax_lex.specs.Identifier.{is_ascii_part}
 use Rattle.syntax_lex.proofs.Blocks.{take_whole}
 use Rattle.syntax_lex.proofs.identifier.are_ascii_parts.Goals as goal

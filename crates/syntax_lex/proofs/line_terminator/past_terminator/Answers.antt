@@ -2,7 +2,7 @@ use Rattle.std.proofs.Common.{refl, nat_eq, Bor, Option, None, Some, ◌≡◌, 
 use Rattle.std.proofs.lemmas.Bool.{eqb-true, false_from_ne_true}
 use Rattle.std.specs.Option.{MatchOption, unwrap_or}
 use Rattle.std.specs.Str.{chars}
-use Rattle.syntax_lex.specs.LineTerminator.{begins_with_line_feed, is_line_terminator, parts_of}
+use Rattle.syntax_lex.specs.LineTerminator.{begins_with_line_feed, parts_of}
 use Rattle.syntax_lex.proofs.Lines.{parts_past_line_feed, parts_past_terminator}
 use Rattle.syntax_lex.proofs.line_terminator.past_terminator.Goals as goal
 

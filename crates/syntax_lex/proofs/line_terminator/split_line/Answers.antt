@@ -1,4 +1,4 @@
-use Rattle.std.proofs.Common.{◌≡◌, ◌≢◌, ◌∙◌, ℕ, ◌+◌, List, [], ◌∷◌, ◌++◌, length, map, ap, refl, sym, arith}
+use Rattle.std.proofs.Common.{◌≡◌, ◌≢◌, ◌∙◌, List, [], ◌∷◌, ◌++◌, length, map, ap, sym, arith}
 use Rattle.std.proofs.StrCases.{chars_of_empty}
 use Rattle.std.proofs.lemmas.List.{append-nil, nil_from_length}
 use Rattle.std.proofs.lemmas.Str.{chars-nil, chars_past_char}
@@ -6,7 +6,7 @@ use Rattle.std.specs.Char.{encode_utf8}
 use Rattle.std.specs.Str.{chars}
 use Rattle.std.specs.Str.Iter.{chars_rest}
 use Rattle.syntax_lex.specs.LineTerminator.{Part, parts_of}
-use Rattle.syntax_lex.proofs.Lines.{IsInLine, IsInLine-cut, IsInLine-line, IsInLine-start, IsInLine-step, length_of_no_chars, lines_at_end, lines_at_terminator, slice_range_front}
+use Rattle.syntax_lex.proofs.Lines.{IsInLine-cut, IsInLine-line, IsInLine-start, IsInLine-step, length_of_no_chars, lines_at_end, lines_at_terminator, slice_range_front}
 use Rattle.syntax_lex.proofs.line_terminator.split_line.Goals as goal
 
 pub loop-c-init : goal.loop-c-init
