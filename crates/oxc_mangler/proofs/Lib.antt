@@ -11,3 +11,5 @@ pub mod PrivateChains
 pub mod Untaken
 pub mod SlotNamed
 pub mod Renamed
+pub mod Used
+pub mod Mangling

@@ -11,4 +11,5 @@ pub mod Laws
 pub mod NameOrder
 pub mod SlotNames
 pub mod PrivateLaws
+pub mod MangledLaws
 pub mod Open

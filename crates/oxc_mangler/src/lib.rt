@@ -5,6 +5,6 @@ mod laws;
 
 pub use laws::{
     given_names_keep_bindings, lengths_never_fall, live_together, live_up_to_home,
-    private_names_keep_bindings, private_numbers_differ, short_is_one_to_one,
+    new_names_mangle, private_names_keep_bindings, private_numbers_differ, short_is_one_to_one,
     slot_names_keep_bindings, slots_are_fewest, slots_never_clash,
 };
