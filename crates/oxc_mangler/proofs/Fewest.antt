@@ -49,7 +49,7 @@ count-above (suc n) k = (omega arith, weaken (count_from n (suc k)) (count-above
     weaken [] a = tt
     weaken (x ∷ xs) a = (let i : suc k ≤ x = a.0 in omega arith, weaken xs a.1)
 
-count-apart : (n k : ℕ) → PairsOf (λ x y. x ≡ y → ⊥) (count_from n k)
+pub count-apart : (n k : ℕ) → PairsOf (λ x y. x ≡ y → ⊥) (count_from n k)
 unfolding all_open
 count-apart zero k = tt
 count-apart (suc n) k = (other (count_from n (suc k)) (count-above n (suc k)), count-apart n (suc k))
@@ -58,7 +58,7 @@ count-apart (suc n) k = (other (count_from n (suc k)) (count-above n (suc k)), c
     other [] a = tt
     other (x ∷ xs) a = ((λ e. let i : suc k ≤ x = a.0 in omega arith), other xs a.1)
 
-count-length : (n k : ℕ) → length (count_from n k) ≡ n
+pub count-length : (n k : ℕ) → length (count_from n k) ≡ n
 unfolding all_open
 count-length zero k = refl
 count-length (suc n) k = ap suc (count-length n (suc k))

@@ -32,7 +32,7 @@ use Rattle.tree_semantic.specs.Renamings.{IsBindingOf, KeepsApart, TellsSame, is
 
 -- ---- lists
 
-in-map : {X Y : Type 0} (f : X → Y) (xs : List X) (x : X) → In x xs → In (f x) (map f xs)
+pub in-map : {X Y : Type 0} (f : X → Y) (xs : List X) (x : X) → In x xs → In (f x) (map f xs)
 in-map f [] x i = i
 in-map {X} {Y} f (z ∷ zs) x i = go i (in-map f zs x)
   where
@@ -40,7 +40,7 @@ in-map {X} {Y} f (z ∷ zs) x i = go i (in-map f zs x)
     go (inl e) ih = inl (ap f e)
     go (inr j) ih = inr (ih j)
 
-from-map : {X Y : Type 0} (f : X → Y) (xs : List X) (y : Y) → In y (map f xs) → (x : X) × In x xs × (f x ≡ y)
+pub from-map : {X Y : Type 0} (f : X → Y) (xs : List X) (y : Y) → In y (map f xs) → (x : X) × In x xs × (f x ≡ y)
 from-map f [] y i = absurd i
 from-map {X} {Y} f (z ∷ zs) y i = go i (from-map f zs y)
   where
@@ -48,7 +48,7 @@ from-map {X} {Y} f (z ∷ zs) y i = go i (from-map f zs y)
     go (inl e) ih = (z, inl refl, e)
     go (inr j) ih = let r : (x : X) × In x zs × (f x ≡ y) = ih j in (r.0, inr r.1, r.2)
 
-in-filter : {X : Type 0} (test : X → Bool) (xs : List X) (x : X) → In x xs → test x ≡ true → In x (filter test xs)
+pub in-filter : {X : Type 0} (test : X → Bool) (xs : List X) (x : X) → In x xs → test x ≡ true → In x (filter test xs)
 in-filter test [] x i h = i
 in-filter {X} test (z ∷ zs) x i h = go (test z) refl i (in-filter test zs x)
   where
@@ -58,7 +58,7 @@ in-filter {X} test (z ∷ zs) x i h = go (test z) refl i (in-filter test zs x)
     go false q (inl e) ih = absurd (both_ways _ q (subst (λ y. test y ≡ true) (sym e) h))
     go false q (inr j) ih = ih j h
 
-from-filter : {X : Type 0} (test : X → Bool) (xs : List X) (x : X) → In x (filter test xs) → In x xs × (test x ≡ true)
+pub from-filter : {X : Type 0} (test : X → Bool) (xs : List X) (x : X) → In x (filter test xs) → In x xs × (test x ≡ true)
 from-filter test [] x i = absurd i
 from-filter {X} test (z ∷ zs) x i = go (test z) refl i (from-filter test zs x)
   where
@@ -67,7 +67,7 @@ from-filter {X} test (z ∷ zs) x i = go (test z) refl i (from-filter test zs x)
     go true q (inr j) ih = let r : In x zs × (test x ≡ true) = ih j in (inr r.0, r.1)
     go false q j ih = let r : In x zs × (test x ≡ true) = ih j in (inr r.0, r.1)
 
-in-left : {X : Type 0} (xs ys : List X) (x : X) → In x xs → In x (xs ++ ys)
+pub in-left : {X : Type 0} (xs ys : List X) (x : X) → In x xs → In x (xs ++ ys)
 in-left [] ys x i = absurd i
 in-left {X} (z ∷ zs) ys x i = go i (in-left zs ys x)
   where
@@ -75,7 +75,7 @@ in-left {X} (z ∷ zs) ys x i = go i (in-left zs ys x)
     go (inl e) ih = inl e
     go (inr j) ih = inr (ih j)
 
-in-right : {X : Type 0} (xs ys : List X) (x : X) → In x ys → In x (xs ++ ys)
+pub in-right : {X : Type 0} (xs ys : List X) (x : X) → In x ys → In x (xs ++ ys)
 in-right [] ys x i = i
 in-right (z ∷ zs) ys x i = inr (in-right zs ys x i)
 
@@ -124,7 +124,7 @@ named-nodes [] (x ∷ xs) h = refl
 named-nodes (s ∷ ss) [] h = absurd (omega (arith, h))
 named-nodes (s ∷ ss) (x ∷ xs) h = ap (λ ns. s.node ∷ ns) (named-nodes ss xs (omega (arith, h)))
 
-named-site : {N : Type 0} (ss : List Site) (xs : List N) (p : Named N) → In p (named_by ss xs) → In p.site ss
+pub named-site : {N : Type 0} (ss : List Site) (xs : List N) (p : Named N) → In p (named_by ss xs) → In p.site ss
 unfolding all_open
 named-site {N} [] xs p i = absurd (none xs i)
   where

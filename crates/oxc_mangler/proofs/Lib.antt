@@ -5,3 +5,9 @@ pub mod Fewest
 pub mod Order
 pub mod Numbered
 pub mod Given
+pub mod Counting
+pub mod Passing
+pub mod PrivateChains
+pub mod Untaken
+pub mod SlotNamed
+pub mod Renamed

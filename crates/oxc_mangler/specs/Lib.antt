@@ -10,4 +10,5 @@ pub mod Mangled
 pub mod Laws
 pub mod NameOrder
 pub mod SlotNames
+pub mod PrivateLaws
 pub mod Open

@@ -1,13 +1,14 @@
 -- The law on names that are given by slot.
-use Rattle.std.specs.Prelude.{◌≡◌, ◌<◌, ℕ, [], Option, Some, None, IsFalse}
+use Rattle.std.specs.Prelude.{◌≡◌, ◌<◌, ℕ, [], get_or, Option, Some, None, IsFalse}
 use Rattle.std.specs.List.{AllByRecursion}
 use Rattle.oxc_mangler.specs.FreeNames.{is_taken}
+use Rattle.oxc_mangler.specs.GivenNames.{given_names, names_of_slots}
 use Rattle.oxc_mangler.specs.Groups.{group_at, members}
 use Rattle.oxc_mangler.specs.Kept.{kept_alone}
 use Rattle.oxc_mangler.specs.Options.{Options}
 use Rattle.oxc_mangler.specs.Slots.{number_of_slots, slot_of, slots_of}
 use Rattle.tree_nodes.specs.Tree.{Parts, Text}
-use Rattle.tree_places.specs.Places.{Place, places, sites, withs}
+use Rattle.tree_places.specs.Places.{Place, named_by, places, sites, withs}
 use Rattle.tree_places.specs.Scopes.{same_scope}
 use Rattle.tree_semantic.specs.Bindings.{binding, bindings, bound, same_name}
 use Rattle.tree_semantic.specs.Renamings.{KeepsApart, all_under}
@@ -40,3 +41,11 @@ SlotNamesKeepApart = (o : Options) (t : Parts) (name : ℕ → Text) → IsRoote
 abbrev pub SlotNamesKeepBindings : Type 0
 SlotNamesKeepBindings = (o : Options) (t : Parts) (name : ℕ → Text) → IsRooted t → FitSlots o t name
     → bindings same_name (all_under (named_by_slot o t name) (places t)) ≡ bindings same_name (places t)
+
+-- the names that a tree's slots get are such
+abbrev pub GivenNamesFit : Type 0
+GivenNamesFit = (o : Options) (t : Parts) → FitSlots o t (λ k. get_or (names_of_slots o t) k [])
+
+-- so under the given names each place has the binding that it had
+abbrev pub GivenNamesKeepBindings : Type 0
+GivenNamesKeepBindings = (o : Options) (t : Parts) → IsRooted t → bindings same_name (named_by (sites t) (given_names o t)) ≡ bindings same_name (places t)

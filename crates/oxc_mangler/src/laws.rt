@@ -1,7 +1,13 @@
 //! The laws on slots. The functions here do nothing: each has a law as its contract.
 
 ghost use Rattle.oxc_mangler.specs.NameOrder.{LengthsNeverFall, ShortIsOneToOne};
-ghost use Rattle.oxc_mangler.specs.SlotNames.{SlotNamesKeepApart, SlotNamesKeepBindings};
+ghost use Rattle.oxc_mangler.specs.PrivateLaws.{PrivateNamesKeepBindings, PrivateNumbersDiffer};
+ghost use Rattle.oxc_mangler.specs.SlotNames.{
+  GivenNamesFit,
+  GivenNamesKeepBindings,
+  SlotNamesKeepApart,
+  SlotNamesKeepBindings,
+};
 ghost use Rattle.oxc_mangler.specs.Laws.{
   LiveTogether,
   LiveUpToHome,
@@ -47,4 +53,22 @@ pub fn lengths_never_fall()
 pub fn slot_names_keep_bindings()
     ensures apart { SlotNamesKeepApart }
     ensures bindings { SlotNamesKeepBindings }
+{}
+
+/// The law that along the class bodies around a place the numbers of private names are all different,
+/// those of open classes aside, which have none.
+pub fn private_numbers_differ()
+    ensures { PrivateNumbersDiffer }
+{}
+
+/// The law that under the new private names every private place keeps its binding, and so its class.
+pub fn private_names_keep_bindings()
+    ensures { PrivateNamesKeepBindings }
+{}
+
+/// The law that the given names of a tree's slots are different and not taken, and that every place has
+/// the binding under the given names that it had.
+pub fn given_names_keep_bindings()
+    ensures fit { GivenNamesFit }
+    ensures bindings { GivenNamesKeepBindings }
 {}

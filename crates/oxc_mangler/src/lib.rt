@@ -4,6 +4,7 @@
 mod laws;
 
 pub use laws::{
-    lengths_never_fall, live_together, live_up_to_home, short_is_one_to_one,
+    given_names_keep_bindings, lengths_never_fall, live_together, live_up_to_home,
+    private_names_keep_bindings, private_numbers_differ, short_is_one_to_one,
     slot_names_keep_bindings, slots_are_fewest, slots_never_clash,
 };

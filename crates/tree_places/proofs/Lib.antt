@@ -7,3 +7,4 @@ pub mod Lineages
 pub mod Rising
 pub mod Homed
 pub mod Rooted
+pub mod Linked

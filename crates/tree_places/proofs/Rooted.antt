@@ -18,7 +18,7 @@ unfolding all_open
 known-none ss x y e i = or_left _ _ (subst (λ (z : Scope). same_scope z [] ≡ true) (same-eq [] y (subst (λ (z : Scope). is_inside z y ≡ true) e i)) refl)
 
 -- what a known scope lies in is known
-known-outwards : (ss : List Scope) → Proper ss → (x y : Scope) → known ss x ≡ true → is_inside x y ≡ true → known ss y ≡ true
+pub known-outwards : (ss : List Scope) → Proper ss → (x y : Scope) → known ss x ≡ true → is_inside x y ≡ true → known ss y ≡ true
 unfolding all_open
 known-outwards [] p x y k i = go (or_cases _ _ k)
   where

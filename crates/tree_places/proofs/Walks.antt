@@ -36,7 +36,7 @@ pub record Stepped (s s' : Seen) : Type 0 where
   pub grows : (x : Scope) → known s.scopes x ≡ true → known s'.scopes x ≡ true
   pub placed : list_all (λ x. known s'.scopes x.setting.scope) s'.sites ≡ true
 
-known-more : (ss : List Scope) (n x : Scope) → known ss x ≡ true → known (n ∷ ss) x ≡ true
+pub known-more : (ss : List Scope) (n x : Scope) → known ss x ≡ true → known (n ∷ ss) x ≡ true
 unfolding all_open
 known-more ss n x h = go (or_cases _ _ h)
   where
@@ -44,7 +44,7 @@ known-more ss n x h = go (or_cases _ _ h)
     go (inl e) = or_left _ _ e
     go (inr e) = or_right _ _ (or_right _ _ e)
 
-known-first : (ss : List Scope) (n : Scope) → known (n ∷ ss) n ≡ true
+pub known-first : (ss : List Scope) (n : Scope) → known (n ∷ ss) n ≡ true
 unfolding all_open
 known-first ss n = or_right _ _ (or_left _ _ (same-refl n))
 
