@@ -11,3 +11,4 @@ pub mod PrivateChains
 pub mod Untaken
 pub mod SlotNamed
 pub mod Renamed
+pub mod Rivals

@@ -12,3 +12,4 @@ pub mod NameOrder
 pub mod SlotNames
 pub mod PrivateLaws
 pub mod Open
+pub mod Rivals
