@@ -1,5 +1,5 @@
 -- No rival uses fewer names: groups that are live in one scope have different names in it.
-use Rattle.std.specs.Prelude.{◌≡◌, ◌⊎◌, ◌≤◌, ℕ, suc, max, Bool, true, false, cond, not, ◌||◌, ◌&&◌, List, [], ◌∷◌, ◌++◌, length, map, filter, find, nat_eq, Option, Some, None, is_none, is_some}
+use Rattle.std.specs.Prelude.{◌≡◌, ◌⊎◌, ◌≤◌, ℕ, suc, Bool, true, false, cond, not, ◌||◌, ◌&&◌, List, [], ◌∷◌, length, map, filter, find, nat_eq, Option, Some, None, is_none, is_some}
 use Rattle.std.specs.List.{list_any, flat_map}
 use Rattle.std.proofs.Common.{refl, sym, ap, ◌∙◌, subst, arith, inl, inr}
 use Rattle.std.proofs.lemmas.Bool.{or_cases, or_left, or_right, or_parts, and_parts, and_from, both_ways, eq-eqb, eqb-true}
@@ -7,12 +7,11 @@ use Rattle.std.proofs.lemmas.List.{length-map}
 use Rattle.oxc_mangler.proofs.Counting.{no_more}
 use Rattle.oxc_mangler.proofs.Given.{Leader, from-append, from-filter, from-map, group_own, leader_of, not_kept, one_of, places_rise, tells}
 use Rattle.oxc_mangler.proofs.Order.{AllOf-append, AllOf-map, PairsOf-append, at_scope, homes}
-use Rattle.oxc_mangler.proofs.Runs.{of-each}
 use Rattle.oxc_mangler.proofs.SlotNamed.{filter-apart, map-apart}
 use Rattle.oxc_mangler.proofs.Together.{live_together}
 use Rattle.oxc_mangler.specs.Groups.{Group, Member, greatest, greatest_width, group_at, group_led_by, group_of, groups, groups_of, is_live, leads, members, reaches, width}
 use Rattle.oxc_mangler.specs.Kept.{kept_alone}
-use Rattle.oxc_mangler.specs.Mangled.{IsRival, changes, implied, names_where, unshadowed}
+use Rattle.oxc_mangler.specs.Mangled.{IsRival, changes, implied, names_where}
 use Rattle.oxc_mangler.specs.Open.{all_open}
 use Rattle.oxc_mangler.specs.Options.{Options}
 use Rattle.oxc_mangler.specs.Rivals.{NoRivalUsesFewer}
@@ -31,8 +30,8 @@ use Rattle.tree_places.specs.Scopes.{Scope, first_outwards, is_inside, same_scop
 use Rattle.tree_semantic.proofs.Lists.{First, In, any-from, any-some, contains_from_in, find-first, find-none, in_from_Contains, map-map, none_some, some_one, tested, told}
 use Rattle.tree_semantic.proofs.Separate.{names_separate}
 use Rattle.tree_semantic.proofs.Stay.{At, binder_source, binding_function, binding_plain, binding_refers, binding_source, declares_plain, first_own, plainly}
-use Rattle.tree_semantic.specs.Bindings.{Bound, binder, binding, bindings, bound, declares_at, is_node, names_function_at, node, node_of, or_else, plain_binder, same_name, shadower}
-use Rattle.tree_semantic.specs.Faults.{has_crossing, has_fault}
+use Rattle.tree_semantic.specs.Bindings.{Bound, binder, binding, bound, declares_at, is_node, names_function_at, node, node_of, or_else, plain_binder, same_name, shadower}
+use Rattle.tree_semantic.specs.Faults.{has_crossing}
 use Rattle.tree_semantic.specs.Homes.{declares, declares_plainly, home, is_function_name, is_var, names_function, refers}
 use Rattle.tree_semantic.specs.PrivateNames.{distinct, distinct_after, is_among}
 use Rattle.tree_semantic.specs.Renamings.{IsBindingOf, is_bound_inside, is_live_in}
