@@ -8,3 +8,4 @@ pub mod Modules
 pub mod PrivateNames
 pub mod KeptNames
 pub mod Faulty
+pub mod RivalRows

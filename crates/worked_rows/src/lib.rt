@@ -10,6 +10,7 @@ pub mod functions;
 pub mod judging;
 pub mod kept_names;
 pub mod modules;
+pub mod premises;
 pub mod private_names;
 pub mod rivals;
 pub mod short_names;
