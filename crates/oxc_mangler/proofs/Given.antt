@@ -210,21 +210,21 @@ module _ (o : Options) (t : Parts) where
       let e : w.0 ≡ b = one_of t w.0 b w.1 (in_from_Contains (places t) b ib.among) n in
       f ∙ ap Some (sym w.2 ∙ ap (λ (p : Place). record { place = p; binding = binding same_name (places t) p }) e))
 
-  group_own : (b : Place) → Binding b → group_in o t b ≡ group_of kept (node b) (shadower same_name (places t) b)
+  pub group_own : (b : Place) → Binding b → group_in o t b ≡ group_of kept (node b) (shadower same_name (places t) b)
   unfolding all_open
   group_own b ib =
       ap (group_at kept ps bs) ib.own
       ∙ ap (λ q. elim q as (λ r. Option ℕ) [ None ↦ None | Some c ↦ group_of kept (node b) (shadower same_name (places t) c.place) ]) (found_own b ib)
 
   -- the binding that leads the group of b
-  record Leader (b c : Place) (g : ℕ) : Type 0 where
-    is : Binding c
-    number : node c ≡ g
-    homed : home c.site ≡ home b.site
-    named : c.name ≡ b.name
-    leading : group_in o t c ≡ Some g
+  pub record Leader (b c : Place) (g : ℕ) : Type 0 where
+    pub is : Binding c
+    pub number : node c ≡ g
+    pub homed : home c.site ≡ home b.site
+    pub named : c.name ≡ b.name
+    pub leading : group_in o t c ≡ Some g
 
-  not_kept : (n : ℕ) (s : Option ℕ) (g : ℕ) → group_of kept n s ≡ Some g → (is_kept kept n s ≡ false) × ((elim s as (λ r. ℕ) [ None ↦ n | Some l ↦ l ]) ≡ g)
+  pub not_kept : (n : ℕ) (s : Option ℕ) (g : ℕ) → group_of kept n s ≡ Some g → (is_kept kept n s ≡ false) × ((elim s as (λ r. ℕ) [ None ↦ n | Some l ↦ l ]) ≡ g)
   unfolding all_open
   not_kept n s g e = go (is_kept kept n s) refl s e
     where
@@ -241,7 +241,7 @@ module _ (o : Options) (t : Parts) where
   or_false true b h = absurd (both_ways true h refl)
   or_false false b h = h
 
-  leader_of : (b : Place) (g : ℕ) → Binding b → group_in o t b ≡ Some g → (c : Place) × Leader b c g
+  pub leader_of : (b : Place) (g : ℕ) → Binding b → group_in o t b ≡ Some g → (c : Place) × Leader b c g
   unfolding all_open
   leader_of b g ib e = told (shadower same_name (places t) b)
       (λ none. let k : (is_kept kept (node b) None ≡ false) × (node b ≡ g) = not_kept (node b) None g (sym (ap (group_of kept (node b)) none) ∙ sym (group_own b ib) ∙ e) in

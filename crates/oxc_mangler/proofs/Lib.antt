@@ -13,3 +13,4 @@ pub mod SlotNamed
 pub mod Renamed
 pub mod Used
 pub mod Mangling
+pub mod Rivals

@@ -13,3 +13,4 @@ pub mod SlotNames
 pub mod PrivateLaws
 pub mod MangledLaws
 pub mod Open
+pub mod Rivals

@@ -8,3 +8,7 @@ pub use laws::{
     new_names_mangle, private_names_keep_bindings, private_numbers_differ, short_is_one_to_one,
     slot_names_keep_bindings, slots_are_fewest, slots_never_clash,
 };
+
+mod rival_laws;
+
+pub use rival_laws::no_rival_uses_fewer;

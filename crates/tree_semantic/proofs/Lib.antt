@@ -1,3 +1,5 @@
 pub mod Lists
 pub mod Stay
 pub mod Faultless
+pub mod VarScopes
+pub mod Separate

@@ -47,7 +47,7 @@ pub names_declares : (s : Site) → names_function s ≡ true → declares s ≡
 unfolding all_open
 names_declares s h = (and_parts _ _ h).0
 
-declares_plain : (s : Site) → declares s ≡ true → names_function s ≡ false → declares_plainly s ≡ true
+pub declares_plain : (s : Site) → declares s ≡ true → names_function s ≡ false → declares_plainly s ≡ true
 unfolding all_open
 declares_plain s d f = rw d (flip (is_function_name s.setting.role) (rest (declares s) (is_function_name s.setting.role) d f))
   where
@@ -228,7 +228,7 @@ module _ {N : Type 0} (same : N → N → Bool) (tells : TellsSame same) (ps : L
       go none (inl q) ih = subst (λ (r : Scope). binder same ps x r ≡ None) (same-eq (k ∷ ks) h q) none
       go none (inr q) ih = ih q
 
-  binds : (b : Named N) → In b ps → declares b.site ≡ true → binder same ps b.name (home b.site) ≡ None → ⊥
+  pub binds : (b : Named N) → In b ps → declares b.site ≡ true → binder same ps b.name (home b.site) ≡ None → ⊥
   unfolding all_open
   binds b i d e = told (find (declares_at same b.name (home b.site)) ps)
       (λ none. told (find (names_function_at same b.name (home b.site)) ps)

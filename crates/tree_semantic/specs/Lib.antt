@@ -5,3 +5,4 @@ pub mod Evals
 pub mod Faults
 pub mod Renamings
 pub mod Open
+pub mod Separation

@@ -2,8 +2,10 @@
 #![tactic(auto)]
 
 mod laws;
+mod separation_laws;
 
 pub use laws::{bindings_stay, faults_are_never_new};
+pub use separation_laws::names_separate;
 
 #[cfg(test)]
 mod tests;

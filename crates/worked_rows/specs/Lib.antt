@@ -1,0 +1,11 @@
+pub mod Makers
+pub mod Asked
+pub mod Judged
+pub mod Open
+pub mod Blocks
+pub mod Functions
+pub mod Modules
+pub mod PrivateNames
+pub mod KeptNames
+pub mod Faulty
+pub mod RivalRows
