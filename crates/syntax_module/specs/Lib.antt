@@ -1,3 +1,4 @@
 pub mod Entries
 pub mod ModuleRecord
 pub mod RecordList
+pub mod Visits

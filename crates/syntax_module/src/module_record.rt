@@ -5,6 +5,7 @@ ghost use Rattle.syntax_module.specs.ModuleRecord as spec;
 
 mod entries;
 mod record_list;
+mod visit_mut;
 
 pub use entries::{
     DynamicImport, ExportEntry, ExportExportName, ExportImportName, ExportLocalName, ImportEntry,
@@ -14,6 +15,7 @@ use oxc_str::Str;
 pub use record_list::RecordList;
 use std::alloc::{AllocError, Global};
 use syntax_sem::span::Span;
+pub use visit_mut::VisitMutModuleRecord;
 
 /// What a module imports and exports. Of equal keys in a list of pairs each stands, in the order in which they
 /// were pushed.
