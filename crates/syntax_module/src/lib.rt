@@ -2,3 +2,5 @@
 #![tactic(auto)]
 
 pub mod module_record;
+#[cfg(test)]
+mod tests;

@@ -4,6 +4,7 @@ ghost use Rattle.std.specs.Prelude.{◌≡◌, Ok};
 ghost use Rattle.syntax_module.specs.ModuleRecord as spec;
 
 mod entries;
+pub mod laws;
 mod record_list;
 mod visit_mut;
 

@@ -1,8 +1,9 @@
-//! What semantic analysis speaks of: ids, spans, and the flags of nodes, scopes, symbols, references and
+//! What semantic analysis speaks of: ids, spans, values, and the flags of nodes, scopes, symbols, references and
 //! elements of classes.
 #![tactic(auto)]
 
 pub mod class;
+pub mod constant_value;
 pub mod node;
 pub mod reference;
 pub mod scope;

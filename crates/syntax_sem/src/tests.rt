@@ -1,6 +1,7 @@
 //! What no contract says: that the flags are those of the analysis, by values from outside.
 
 use crate::class::{ClassId, ElementId, ElementKind};
+use crate::constant_value::ConstantValue;
 use crate::node::{NodeFlags, NodeId};
 use crate::reference::{Reference, ReferenceFlags, ReferenceId};
 use crate::scope::{ScopeFlags, ScopeId};
@@ -8,6 +9,7 @@ use crate::semantic_id::{CloneInSemanticIds, SemanticId};
 use crate::span::Span;
 use crate::symbol::{RedeclarationId, SymbolFlags, SymbolId};
 use bitflags::Flags;
+use oxc_str::CompactStr;
 use std::alloc::{AllocError, Global};
 use std::test::Fail;
 
@@ -360,4 +362,14 @@ fn references(rt: HostRuntime) {
     assert_eq!(rt; known.symbol_id(), Some(symbol));
     assert_eq!(rt; known.flags(), ReferenceFlags::WRITE);
     assert_eq!(rt; Span::new(4, 5), Span { start: 4, end: 5 });
+}
+
+#[test]
+fn constant_values(rt: HostRuntime) -> Result<(), Fail> {
+    let alloc = rt.alloc();
+    let a = ConstantValue::String(CompactStr::new(alloc, "a")?);
+    let same = ConstantValue::String(CompactStr::new(alloc, "a")?);
+    let other = ConstantValue::String(CompactStr::new(alloc, "b")?);
+    assert!(rt; a == same && a != other);
+    Ok(())
 }
