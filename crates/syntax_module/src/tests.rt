@@ -36,7 +36,7 @@ impl VisitMutModuleRecord for Numbering {
 }
 
 /// `import d, { a as b } from "m"`, with a span of its own for each part.
-fn imported(alloc: Global, record: &mut ModuleRecord<'static>) -> Result<(), AllocError> {
+fn imported(alloc: Global, module: &mut ModuleRecord<'static>) -> Result<(), AllocError> {
     let mut requests = RecordList::new(alloc);
     requests.push(RequestedModule {
         statement_span: at(2),
@@ -44,17 +44,17 @@ fn imported(alloc: Global, record: &mut ModuleRecord<'static>) -> Result<(), All
         is_type: false,
         is_import: true,
     })?;
-    record
+    module
         .requested_modules
         .push((Str::new_const("m"), requests))?;
-    record.import_entries.push(ImportEntry {
+    module.import_entries.push(ImportEntry {
         statement_span: at(3),
         module_request: name("m", 4),
         import_name: ImportImportName::Default(at(6)),
         local_name: name("d", 5),
         is_type: false,
     })?;
-    record.import_entries.push(ImportEntry {
+    module.import_entries.push(ImportEntry {
         statement_span: at(7),
         module_request: name("m", 8),
         import_name: ImportImportName::Name(name("a", 10)),
@@ -108,8 +108,8 @@ fn names_of_exports(rt: HostRuntime) {
 }
 
 /// The ends of the spans of an import entry, in the order of the visits.
-fn import_ends(record: &ModuleRecord<'static>, place: usize) -> [u32; 3] {
-    match record.import_entries.get(place) {
+fn import_ends(module: &ModuleRecord<'static>, place: usize) -> [u32; 3] {
+    match module.import_entries.get(place) {
         Some(entry) => [
             entry.statement_span.end,
             entry.module_request.span.end,
