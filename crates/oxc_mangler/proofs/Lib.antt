@@ -12,3 +12,4 @@ pub mod Untaken
 pub mod SlotNamed
 pub mod Renamed
 pub mod Rivals
+pub mod Bounds

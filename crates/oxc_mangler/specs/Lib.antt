@@ -13,3 +13,4 @@ pub mod SlotNames
 pub mod PrivateLaws
 pub mod Open
 pub mod Rivals
+pub mod Bounds

@@ -9,6 +9,8 @@ pub use laws::{
     slot_names_keep_bindings, slots_are_fewest, slots_never_clash,
 };
 
+mod bound_laws;
 mod rival_laws;
 
+pub use bound_laws::names_are_bounded;
 pub use rival_laws::no_rival_uses_fewer;
