@@ -1,6 +1,6 @@
 -- How far the candidates are asked: each that is passed over is a forbidden name, and they are all different.
 use Rattle.std.specs.Prelude.{◌≡◌, ◌⊎◌, ◌≤◌, ◌<◌, ℕ, zero, suc, ◌+◌, ◌^◌, Bool, true, false, cond, not, ◌||◌, ◌&&◌, nat_eq, List, [], ◌∷◌, ◌++◌, length, map, filter, get_or, is_some, Option, Some, None}
-use Rattle.std.specs.List.{Contains, list_any}
+use Rattle.std.specs.List.{list_any}
 use Rattle.std.proofs.Common.{refl, sym, ap, ◌∙◌, subst, arith, inl, inr}
 use Rattle.std.proofs.lemmas.Bool.{or_cases, and_parts, both_ways, eq-eqb, eqb-true}
 use Rattle.std.proofs.lemmas.List.{length-append, length-map, length-reverse}
@@ -10,11 +10,11 @@ use Rattle.oxc_mangler.proofs.Fewest.{count-length}
 use Rattle.oxc_mangler.proofs.Given.{from-map, in-filter, in-left, in-map, in-right, one_of, tells}
 use Rattle.oxc_mangler.proofs.Order.{slots_are_fewest}
 use Rattle.oxc_mangler.proofs.Passing.{among-in}
-use Rattle.oxc_mangler.proofs.Rivals.{Led, Other, greatest-most, group-source, groups-differ, in-distinct, led, members-at}
+use Rattle.oxc_mangler.proofs.Rivals.{Led, greatest-most, group-source, groups-differ, in-distinct, led, members-at}
 use Rattle.oxc_mangler.proofs.Runs.{of-each}
 use Rattle.oxc_mangler.proofs.SlotNamed.{map-apart, slots-named}
 use Rattle.oxc_mangler.proofs.Untaken.{candidate_one, free-different, free-length, passed, passed-different, passed-taken}
-use Rattle.oxc_mangler.specs.Bounds.{BoundIsSmall, NamesAreBounded, bound, forbidden}
+use Rattle.oxc_mangler.specs.Bounds.{BoundIsSmall, NamesAreBounded, forbidden}
 use Rattle.oxc_mangler.specs.FreeNames.{first_untaken, is_taken, is_unchanged, is_variable}
 use Rattle.oxc_mangler.specs.GivenNames.{count_from, free_names, names_of_slots, slot_names}
 use Rattle.oxc_mangler.specs.Groups.{Group, Member, greatest_width, group_led_by, groups_of, is_live, leads, members, width}
@@ -29,11 +29,10 @@ use Rattle.tree_nodes.specs.Tree.{Parts, Text, atom, child, done, many}
 use Rattle.tree_nodes.specs.declared.table.Opens.{Opens}
 use Rattle.tree_nodes.specs.declared.table.Opens.TheVariants.{Nothing}
 use Rattle.tree_places.proofs.Numbers.{Numbered, walk-numbered}
-use Rattle.tree_places.proofs.Runs.{AllOf, PairsOf}
 use Rattle.tree_places.specs.Lineage.{count_nodes}
 use Rattle.tree_places.specs.Places.{Around, Place, Seen, Setting, Site, at_field, before_all, enter, hide, met, named_by, names, nothing_yet, places, seen, sites, walk}
 use Rattle.tree_places.specs.Scopes.{Scope}
-use Rattle.tree_semantic.proofs.Lists.{In, any-some, in_from_Contains, tested}
+use Rattle.tree_semantic.proofs.Lists.{In, any-some, in_from_Contains}
 use Rattle.tree_semantic.specs.Bindings.{is_node, node, same_name}
 use Rattle.tree_semantic.specs.Evals.{name_eval}
 use Rattle.tree_semantic.specs.PrivateNames.{distinct, distinct_after, is_among}

@@ -79,7 +79,7 @@ at_least n ns h = subst (λ (m : ℕ). m ≤ length ns) (count-length n 0)
     (length-le_from_is_member nat_eq_equiv (count_from n 0) ns (distinct_from (count_from n 0) (count-apart n 0)) (λ q m. h q (let i : q < n + 0 = count-below n 0 q m in omega arith)))
 
 -- all numbers below the least missing one are listed
-below-missing : (fuel : ℕ) (ns : List ℕ) (k j : ℕ) → k ≤ j → j < least_missing fuel ns k → list_any (eqb j) ns ≡ true
+pub below-missing : (fuel : ℕ) (ns : List ℕ) (k j : ℕ) → k ≤ j → j < least_missing fuel ns k → list_any (eqb j) ns ≡ true
 unfolding all_open
 below-missing zero ns k j h i = absurd (omega arith)
 below-missing (suc fuel) ns k j h i = go (list_any (eqb k) ns) refl i (below-missing fuel ns (suc k) j)

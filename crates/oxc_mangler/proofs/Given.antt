@@ -156,7 +156,7 @@ home_rooted t root p i e =
     go true q v w = both_ways _ v (subst (λ (s : Scope). same_scope s [] ≡ true) (sym q) refl)
     go false q v w = both_ways _ v (subst (λ (s : Scope). same_scope s [] ≡ true) (same-eq [] p.site.setting.var_scope (subst (λ (s : Scope). is_inside s p.site.setting.var_scope ≡ true) q w)) refl)
 
-home_inside : (t : Parts) (p : Place) → In p (places t) → is_inside p.site.setting.scope (home p.site) ≡ true
+pub home_inside : (t : Parts) (p : Place) → In p (places t) → is_inside p.site.setting.scope (home p.site) ≡ true
 unfolding all_open
 home_inside t p i = go (is_var p.site.setting.role) (of-each (λ s. is_inside s.setting.scope s.setting.var_scope ≡ true) (sites t) p.site (var_scopes_lie_outside t) (named-site (sites t) (names t) p i))
   where
@@ -186,14 +186,14 @@ module _ (o : Options) (t : Parts) where
   Binding b = IsBindingOf same_name (places t) b
 
   -- a place as a member
-  member_at : Place → Member
+  unfoldable pub member_at : Place → Member
   member_at p = record { place = p; binding = binding same_name (places t) p; group = group_in o t p }
 
-  members-at : members o t ≡ map member_at (places t)
+  pub members-at : members o t ≡ map member_at (places t)
   unfolding all_open member_at
   members-at = map-map (λ (p : Place). record { place = p; binding = binding same_name (places t) p }) (λ (b : Bound Text). record { place = b.place; binding = b.binding; group = group_at kept ps bs b.binding }) (places t)
 
-  in-members : (p : Place) → In p (places t) → In (member_at p) (members o t)
+  pub in-members : (p : Place) → In p (places t) → In (member_at p) (members o t)
   in-members p i = subst (In (member_at p)) (sym members-at) (in-map member_at (places t) p i)
 
   -- a binding's own record is what is found by its number
@@ -289,7 +289,7 @@ module _ (o : Options) (t : Parts) where
           (in-map group_led_by (filter (λ n. same_scope (home n.place.site) s) (filter leads ms)) m (in-filter (λ n. same_scope (home n.place.site) s) (filter leads ms) m (in-filter leads ms m i l) e))
       go (inr e) ih = in-right (map group_led_by (filter (λ n. same_scope (home n.place.site) s) (filter leads ms))) (groups ss ms) (group_led_by m) (ih e)
 
-  from-groups : (ss : List Scope) (ms : List Member) (g : Group) → In g (groups ss ms) → (m : Member) × In m ms × (group_led_by m ≡ g)
+  pub from-groups : (ss : List Scope) (ms : List Member) (g : Group) → In g (groups ss ms) → (m : Member) × In m ms × (group_led_by m ≡ g)
   unfolding all_open
   from-groups [] ms g i = absurd i
   from-groups (s ∷ ss) ms g i = go (from-append (map group_led_by (filter (λ n. same_scope (home n.place.site) s) (filter leads ms))) (groups ss ms) g i) (from-groups ss ms g)
@@ -456,6 +456,34 @@ module _ (o : Options) (t : Parts) where
         told (group_in o t b)
         (λ gb. unbound_nothing same_name tells (places t) p b r e jb ib.declares (home_rooted t root b jb) inside (sym (new_is b None (without_group b gb)) ∙ sym n ∙ np))
         (λ g gb. let k : Called b g = called b g ib gb in not_taken p k.slotted.slot k.below ip (or_right _ _ r) gp (sym k.called ∙ sym n ∙ np))
+
+    -- a place that has a group is called as the slot of that
+    pub record Placed (p : Place) (g : ℕ) : Type 0 where
+      pub slotted : Slotted
+      pub among : In slotted (slots_of o t)
+      pub found : slot_of (slots_of o t) (Some g) ≡ Some slotted.slot
+      pub below : slotted.slot < number_of_slots (slots_of o t)
+      pub called : named_by_slot o t name p ≡ name slotted.slot
+
+    pub placed : (p : Place) (g : ℕ) → In p (places t) → group_in o t p ≡ Some g → Placed p g
+    unfolding all_open by_slot
+    placed p g i e = told (binding same_name (places t) p)
+        (λ none. absurd (none_some g (sym (ap (group_at kept ps bs) none) ∙ e)))
+        (λ n b.
+        let s : (c : Place) × (node c ≡ n) × Binding c × (c.name ≡ p.name) = binding_source same_name tells (places t) p i n b in
+        let group : group_in o t s.0 ≡ Some g = ap (group_at kept ps bs) (s.2.own ∙ ap Some s.1 ∙ sym b) ∙ e in
+        let d : (d : Slotted) × Slot s.0 g d = slot_for root s.0 g s.2 group in
+        record {
+          slotted = d.0;
+          among = d.1.among;
+          found = d.1.found;
+          below = greatest-in (slots_of o t) d.0 d.1.among;
+          called = new_is p (Some d.0.slot) (ap (slot_of (slots_of o t)) e ∙ d.1.found);
+        })
+
+    pub kept_name : (p : Place) → group_in o t p ≡ None → named_by_slot o t name p ≡ p.name
+    unfolding by_slot
+    kept_name p e = new_is p None (without_group p e)
 
     pub keeps_apart : KeepsApart same_name (places t) (named_by_slot o t name)
     keeps_apart = record { in_order = places_rise t; constant = constant; no_new_equality = no_new_equality; no_capture = no_capture }

@@ -11,5 +11,7 @@ pub mod PrivateChains
 pub mod Untaken
 pub mod SlotNamed
 pub mod Renamed
+pub mod Used
+pub mod Mangling
 pub mod Rivals
 pub mod Bounds

@@ -27,11 +27,11 @@ use Rattle.tree_semantic.specs.Renamings.{all_under, under}
 
 -- ---- lists of names
 
-in-among : (ns : List Text) (x : Text) → In x ns → is_among ns x ≡ true
+pub in-among : (ns : List Text) (x : Text) → In x ns → is_among ns x ≡ true
 unfolding all_open
 in-among ns x i = any-from (same_name x) ns x i ((tells x x).1 refl)
 
-from-distinct : (before xs : List Text) (x : Text) → is_among (distinct_after before xs) x ≡ true → is_among xs x ≡ true
+pub from-distinct : (before xs : List Text) (x : Text) → is_among (distinct_after before xs) x ≡ true → is_among xs x ≡ true
 unfolding all_open
 from-distinct before [] x h = h
 from-distinct before (y ∷ ys) x h = go (is_among before y) h (from-distinct before ys x) (from-distinct (y ∷ before) ys x)
@@ -45,7 +45,7 @@ from-distinct before (y ∷ ys) x h = go (is_among before y) h (from-distinct be
         at (inl e) = or_left _ _ e
         at (inr e) = or_right _ _ (jh e)
 
-to-distinct : (before xs : List Text) (x : Text) → is_among xs x ≡ true → is_among before x ≡ false → is_among (distinct_after before xs) x ≡ true
+pub to-distinct : (before xs : List Text) (x : Text) → is_among xs x ≡ true → is_among before x ≡ false → is_among (distinct_after before xs) x ≡ true
 unfolding all_open
 to-distinct before [] x h n = h
 to-distinct before (y ∷ ys) x h n = go (is_among before y) refl (or_cases _ _ h) (λ k. to-distinct before ys x k n) (λ k m. to-distinct (y ∷ before) ys x k m)

@@ -1,8 +1,8 @@
 -- The first candidates that aren't taken: they are all different, and there are enough of them.
-use Rattle.std.specs.Prelude.{◌≡◌, ◌⊎◌, ◌≤◌, ◌<◌, ℕ, zero, suc, ◌+◌, ◌*◌, ◌-◌, ◌/◌, ◌%◌, Bool, true, false, cond, ◌||◌, ◌&&◌, nat_lt, List, [], ◌∷◌, ◌++◌, length, map}
-use Rattle.std.specs.List.{list_any}
+use Rattle.std.specs.Prelude.{nat_eq, take, get_or, ◌≡◌, ◌⊎◌, ◌≤◌, ◌<◌, ℕ, zero, suc, ◌+◌, ◌*◌, ◌-◌, ◌/◌, ◌%◌, Bool, true, false, cond, ◌||◌, ◌&&◌, nat_lt, List, [], ◌∷◌, ◌++◌, length, map}
+use Rattle.std.specs.List.{list_all, list_any}
 use Rattle.std.proofs.Common.{refl, sym, ap, ◌∙◌, subst, arith, inl, inr}
-use Rattle.std.proofs.lemmas.Bool.{or_cases, and_parts}
+use Rattle.std.proofs.lemmas.Bool.{agree_below_at, or_cases, and_from, and_parts}
 use Rattle.std.proofs.lemmas.List.{length-append, length-map}
 use Rattle.syntax_lex.specs.Keyword.{is_reserved_keyword, reserved_keywords}
 use Rattle.oxc_mangler.proofs.Counting.{no_more}
@@ -10,13 +10,13 @@ use Rattle.oxc_mangler.proofs.Given.{in-left, in-map, in-right, tells}
 use Rattle.oxc_mangler.proofs.Numbered.{short_is_one_to_one}
 use Rattle.oxc_mangler.proofs.Passing.{among-in}
 use Rattle.oxc_mangler.proofs.Runs.{of-each}
-use Rattle.oxc_mangler.specs.FreeNames.{first_untaken, is_taken, is_unchanged}
+use Rattle.oxc_mangler.specs.FreeNames.{first_untaken, is_spelled, is_taken, is_unchanged}
 use Rattle.oxc_mangler.specs.GivenNames.{free_names}
 use Rattle.oxc_mangler.specs.Groups.{Member}
 use Rattle.oxc_mangler.specs.Kept.{is_reserved, name_arguments}
 use Rattle.oxc_mangler.specs.Open.{all_open}
 use Rattle.oxc_mangler.specs.Options.{Options}
-use Rattle.oxc_mangler.specs.ShortNames.{candidate, digits_onto, readable_name}
+use Rattle.oxc_mangler.specs.ShortNames.{candidate, characters, digits_onto, more_characters, readable_name}
 use Rattle.tree_nodes.specs.Tree.{Text}
 use Rattle.tree_places.proofs.Runs.{AllOf, PairsOf}
 use Rattle.tree_semantic.proofs.Lists.{In, any-some}
@@ -234,3 +234,55 @@ free-different o ms n = all-different (candidate o.readable) (candidate_one o.re
 pub free-untaken : (o : Options) (ms : List Member) (n : ℕ) → AllOf (λ x. is_taken o ms x ≡ false) (free_names o ms n)
 unfolding all_open
 free-untaken o ms n = all-untaken (candidate o.readable) (candidate_one o.readable) (is_taken o ms) (n + 48 + length o.reserved + length ms) n 0
+
+-- ---- how names are spelled
+
+starts_name : ℕ → Bool
+starts_name c = list_any (nat_eq c) (take 54 characters)
+
+in_name : ℕ → Bool
+in_name c = list_any (nat_eq c) characters
+
+start_told : (k : ℕ) → k < 54 → starts_name (get_or characters k 0) ≡ true
+unfolding starts_name
+start_told k h = agree_below_at (λ n. list_any (nat_eq (get_or characters n 0)) (take 54 characters)) (λ n. true) 54 k refl h
+
+part_told : (k : ℕ) → k < 64 → in_name (get_or characters k 0) ≡ true
+unfolding in_name
+part_told k h = agree_below_at (λ n. list_any (nat_eq (get_or characters n 0)) characters) (λ n. true) 64 k refl h
+
+digit_told : (k : ℕ) → k < 10 → in_name (48 + k) ≡ true
+unfolding in_name
+digit_told k h = agree_below_at (λ n. list_any (nat_eq (48 + n)) characters) (λ n. true) 10 k refl h
+
+parts_told : (fuel m : ℕ) → list_all (λ d. list_any (nat_eq d) characters) (more_characters fuel m) ≡ true
+unfolding all_open in_name
+parts_told zero m = refl
+parts_told (suc fuel) zero = refl
+parts_told (suc fuel) (suc m) = and_from _ _ (part_told (m % 64) (let h : m % 64 < 64 = omega arith in h)) (parts_told fuel (m / 64))
+
+digits_told : (fuel n : ℕ) (after : Text) → list_all (λ d. list_any (nat_eq d) characters) after ≡ true → list_all (λ d. list_any (nat_eq d) characters) (digits_onto fuel n after) ≡ true
+unfolding all_open in_name
+digits_told zero n after h = h
+digits_told (suc fuel) n after h = go (nat_lt n 10) refl (λ a w. digits_told fuel (n / 10) a w)
+  where
+    below : nat_lt n 10 ≡ true → n < 10
+    below e = grind (arith, e)
+
+    go : (b : Bool) → nat_lt n 10 ≡ b → ((a : Text) → list_all (λ d. list_any (nat_eq d) characters) a ≡ true → list_all (λ d. list_any (nat_eq d) characters) (digits_onto fuel (n / 10) a) ≡ true)
+        → list_all (λ d. list_any (nat_eq d) characters) (elim b as (λ c. Text) [ true ↦ (48 + n) ∷ after | false ↦ digits_onto fuel (n / 10) ((48 + n % 10) ∷ after) ]) ≡ true
+    go true e ih = and_from _ _ (digit_told n (below e)) h
+    go false e ih = ih ((48 + n % 10) ∷ after) (and_from _ _ (digit_told (n % 10) (let q : n % 10 < 10 = omega arith in q)) h)
+
+spelled_told : (readable : Bool) (n : ℕ) → is_spelled (candidate readable n) ≡ true
+unfolding all_open starts_name
+spelled_told true n = digits_told (suc n) n [] refl
+spelled_told false n = and_from _ _ (start_told (n % 54) (let h : n % 54 < 54 = omega arith in h)) (parts_told n (n / 54))
+
+pub free-spelled : (o : Options) (ms : List Member) (n : ℕ) → AllOf (λ x. is_spelled x ≡ true) (free_names o ms n)
+unfolding all_open
+free-spelled o ms n = go (free_names o ms n) (all-later (candidate o.readable) (candidate_one o.readable) (is_taken o ms) (n + 48 + length o.reserved + length ms) n 0)
+  where
+    go : (xs : List Text) → AllOf (Later (candidate o.readable) (candidate_one o.readable) (is_taken o ms) 0) xs → AllOf (λ x. is_spelled x ≡ true) xs
+    go [] a = tt
+    go (x ∷ xs) a = (subst (λ (y : Text). is_spelled y ≡ true) (sym a.0.2) (spelled_told o.readable a.0.0), go xs a.1)

@@ -11,6 +11,7 @@ pub mod Laws
 pub mod NameOrder
 pub mod SlotNames
 pub mod PrivateLaws
+pub mod MangledLaws
 pub mod Open
 pub mod Rivals
 pub mod Bounds

@@ -1,5 +1,6 @@
 //! The laws on slots. The functions here do nothing: each has a law as its contract.
 
+ghost use Rattle.oxc_mangler.specs.MangledLaws.{NewNamesAreSound, NewNamesMangle};
 ghost use Rattle.oxc_mangler.specs.NameOrder.{LengthsNeverFall, ShortIsOneToOne};
 ghost use Rattle.oxc_mangler.specs.PrivateLaws.{PrivateNamesKeepBindings, PrivateNumbersDiffer};
 ghost use Rattle.oxc_mangler.specs.SlotNames.{
@@ -71,4 +72,11 @@ pub fn private_names_keep_bindings()
 pub fn given_names_keep_bindings()
     ensures fit { GivenNamesFit }
     ensures bindings { GivenNamesKeepBindings }
+{}
+
+/// The law on new names: a tree that is renamed by them is mangled, if each private name had a binding,
+/// and has no fault where there was none.
+pub fn new_names_mangle()
+    ensures mangled { NewNamesMangle }
+    ensures sound { NewNamesAreSound }
 {}

@@ -61,7 +61,7 @@ declares_plain s d f = rw d (flip (is_function_name s.setting.role) (rest (decla
 
 -- ---- places stand in the order of their numbers, so a number tells the place
 
-above : {N : Type 0} (n : ℕ) (ps : List (Named N)) (q : Named N) → RiseFrom n (map node ps) → In q ps → n ≤ node q
+pub above : {N : Type 0} (n : ℕ) (ps : List (Named N)) (q : Named N) → RiseFrom n (map node ps) → In q ps → n ≤ node q
 unfolding all_open
 above n [] q r i = absurd i
 above {N} n (p ∷ ps) q r i = go i (above (suc (node p)) ps q r.1)
