@@ -76,13 +76,13 @@ taken-forbidden o ms x h = first (or_cases _ _ h)
 -- ---- numbers of those that are found
 
 module _ (name : ℕ → Text) (one : (m n : ℕ) → name m ≡ name n → m ≡ n) (taken : Text → Bool) where
-  record Numbered_below (x : Text) (low high : ℕ) : Type 0 where
-    number : ℕ
-    is : x ≡ name number
-    from : low ≤ number
-    below : number < high
+  pub record Numbered_below (x : Text) (low high : ℕ) : Type 0 where
+    pub number : ℕ
+    pub is : x ≡ name number
+    pub from : low ≤ number
+    pub below : number < high
 
-  found_below : (fuel n k : ℕ) (x : Text) → In x (first_untaken name taken fuel n k) → Numbered_below x k (k + n + length (passed name one taken fuel n k))
+  pub found_below : (fuel n k : ℕ) (x : Text) → In x (first_untaken name taken fuel n k) → Numbered_below x k (k + n + length (passed name one taken fuel n k))
   unfolding all_open passed
   found_below zero n k x i = absurd i
   found_below (suc fuel) zero k x i = absurd i
@@ -105,7 +105,7 @@ module _ (name : ℕ → Text) (one : (m n : ℕ) → name m ≡ name n → m �
           record { number = r.number; is = r.is; from = omega (arith, a); below = omega (arith, b) }
 
 -- the name that is found at a place of a list
-found_at : {X : Type 0} (xs : List X) (x d : X) → In x xs → (k : ℕ) × (k < length xs) × (get_or xs k d ≡ x)
+pub found_at : {X : Type 0} (xs : List X) (x d : X) → In x xs → (k : ℕ) × (k < length xs) × (get_or xs k d ≡ x)
 found_at [] x d i = absurd i
 found_at {X} (y ∷ ys) x d i = go i (found_at ys x d)
   where

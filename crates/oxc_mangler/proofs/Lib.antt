@@ -15,3 +15,6 @@ pub mod Used
 pub mod Mangling
 pub mod Rivals
 pub mod Bounds
+pub mod Totals
+pub mod Spelled
+pub mod Shortest

@@ -15,3 +15,4 @@ pub mod MangledLaws
 pub mod Open
 pub mod Rivals
 pub mod Bounds
+pub mod Shortest

@@ -4,6 +4,7 @@
 mod bound_laws;
 mod laws;
 mod rival_laws;
+mod shortest_laws;
 
 pub use bound_laws::names_are_bounded;
 pub use laws::{
@@ -12,3 +13,4 @@ pub use laws::{
     slot_names_keep_bindings, slots_are_fewest, slots_never_clash,
 };
 pub use rival_laws::no_rival_uses_fewer;
+pub use shortest_laws::no_choice_is_shorter;
