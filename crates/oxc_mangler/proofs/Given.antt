@@ -13,7 +13,7 @@ use Rattle.oxc_mangler.specs.Groups.{Group, Member, group_at, group_led_by, grou
 use Rattle.oxc_mangler.specs.Kept.{has_number, is_kept, kept_alone}
 use Rattle.oxc_mangler.specs.Open.{all_open}
 use Rattle.oxc_mangler.specs.Options.{Options}
-use Rattle.oxc_mangler.specs.SlotNames.{FitSlots, IsRooted, group_in, named_by_slot, slot_in}
+use Rattle.oxc_mangler.specs.SlotNames.{FitSlots, group_in, named_by_slot, slot_in}
 use Rattle.oxc_mangler.specs.Slots.{Slotted, number_of_slots, slot_of, slots_of}
 use Rattle.tree_nodes.specs.Tree.{Parts, Text}
 use Rattle.tree_places.proofs.Homed.{var_scopes_lie_outside}
@@ -21,7 +21,7 @@ use Rattle.tree_places.proofs.Outwards.{inside-refl, same-eq, same-refl}
 use Rattle.tree_places.proofs.Rising.{numbers_rise}
 use Rattle.tree_places.proofs.Rooted.{scopes_around}
 use Rattle.tree_places.proofs.Runs.{PairsOf}
-use Rattle.tree_places.specs.Laws.{RiseFrom}
+use Rattle.tree_places.specs.Laws.{IsRooted, RiseFrom}
 use Rattle.tree_places.specs.Places.{Named, Place, Site, named_by, names, places, scopes, sites, withs}
 use Rattle.tree_places.specs.Scopes.{Scope, is_inside, same_scope}
 use Rattle.tree_semantic.proofs.Lists.{First, In, any-from, any-some, find-first, find-none, in_from_Contains, map-map, none_some, some_one, told}

@@ -2,7 +2,7 @@
 use Rattle.std.specs.Prelude.{◌≡◌, ◌⊎◌, ◌≤◌, ◌<◌, ℕ, zero, suc, ◌+◌, ◌*◌, Bool, true, false, cond, not, ◌&&◌, nat_eq, nat_le, List, [], ◌∷◌, length, map, filter, get_or, sum, Option, Some, None, is_some}
 use Rattle.std.specs.List.{fold}
 use Rattle.std.proofs.Common.{refl, sym, ap, ◌∙◌, subst, arith, inl, inr}
-use Rattle.std.proofs.lemmas.Bool.{and_parts, and_from, both_ways, eq-eqb, cases_lt}
+use Rattle.std.proofs.lemmas.Bool.{and_parts, both_ways, cases_lt}
 use Rattle.std.proofs.lemmas.Bool.Decides.{leb_tells}
 use Rattle.std.proofs.lemmas.List.{length-map}
 use Rattle.oxc_mangler.proofs.Bounds.{Numbered_below, found_below}
@@ -11,13 +11,12 @@ use Rattle.oxc_mangler.proofs.Fewest.{count-apart, count-length}
 use Rattle.oxc_mangler.proofs.Given.{Placed, from-filter, from-map, in-filter, member_at, members-at, tells}
 use Rattle.oxc_mangler.proofs.Mangling.{grouped_open, new, new_open, places-new, slot_name_of, used_name}
 use Rattle.oxc_mangler.proofs.Numbered.{lengths_never_fall}
-use Rattle.oxc_mangler.proofs.Runs.{of-each}
 use Rattle.oxc_mangler.proofs.SlotNamed.{count-at, filter-apart, from-count, given_name_in, given_names_fit, heavier-shorter, in-count, map-apart}
 use Rattle.oxc_mangler.proofs.Spelled.{spelled-short}
 use Rattle.oxc_mangler.proofs.Totals.{no_dearer, one_more, total, total-same, total_none}
 use Rattle.oxc_mangler.proofs.Untaken.{candidate_one, free-different, free-length}
 use Rattle.oxc_mangler.specs.FreeNames.{first_untaken, is_free, is_spelled, is_taken}
-use Rattle.oxc_mangler.specs.GivenNames.{count_from, free_names, names_of_slots, slot_names}
+use Rattle.oxc_mangler.specs.GivenNames.{count_from, free_names, names_of_slots}
 use Rattle.oxc_mangler.specs.Groups.{Member, members}
 use Rattle.oxc_mangler.specs.Mangled.{changes, cost, names_where}
 use Rattle.oxc_mangler.specs.MangledLaws.{HasNewNames}
@@ -30,7 +29,7 @@ use Rattle.oxc_mangler.specs.Slots.{number_of_slots, slot_of, slots_of, weight}
 use Rattle.tree_nodes.specs.Tree.{Parts, Text}
 use Rattle.tree_places.proofs.Runs.{AllOf, PairsOf}
 use Rattle.tree_places.specs.Places.{Place, places}
-use Rattle.tree_semantic.proofs.Lists.{In, contains_from_in, told}
+use Rattle.tree_semantic.proofs.Lists.{In, contains_from_in}
 use Rattle.tree_semantic.specs.Bindings.{is_node, same_name}
 use Rattle.tree_semantic.specs.Homes.{refers}
 use Rattle.tree_semantic.specs.Renamings.{under}

@@ -3,7 +3,7 @@ use Rattle.std.specs.Prelude.{◌≡◌, IsFalse}
 use Rattle.oxc_mangler.specs.Mangled.{IsMangled}
 use Rattle.oxc_mangler.specs.Options.{Options}
 use Rattle.oxc_mangler.specs.PrivateNumbers.{new_names}
-use Rattle.oxc_mangler.specs.SlotNames.{IsRooted}
+use Rattle.tree_places.specs.Laws.{IsRooted}
 use Rattle.tree_nodes.specs.Tree.{Parts}
 use Rattle.tree_places.specs.Places.{names, places}
 use Rattle.tree_places.specs.Renaming.{IsRenamed}

@@ -1,6 +1,5 @@
 -- The law on names that are given by slot.
 use Rattle.std.specs.Prelude.{◌≡◌, ◌<◌, ℕ, [], get_or, Option, Some, None, IsFalse}
-use Rattle.std.specs.List.{AllByRecursion}
 use Rattle.oxc_mangler.specs.FreeNames.{is_taken}
 use Rattle.oxc_mangler.specs.GivenNames.{given_names, names_of_slots}
 use Rattle.oxc_mangler.specs.Groups.{group_at, members}
@@ -8,8 +7,8 @@ use Rattle.oxc_mangler.specs.Kept.{kept_alone}
 use Rattle.oxc_mangler.specs.Options.{Options}
 use Rattle.oxc_mangler.specs.Slots.{number_of_slots, slot_of, slots_of}
 use Rattle.tree_nodes.specs.Tree.{Parts, Text}
+use Rattle.tree_places.specs.Laws.{IsRooted}
 use Rattle.tree_places.specs.Places.{Place, named_by, places, sites, withs}
-use Rattle.tree_places.specs.Scopes.{same_scope}
 use Rattle.tree_semantic.specs.Bindings.{binding, bindings, bound, same_name}
 use Rattle.tree_semantic.specs.Renamings.{KeepsApart, all_under}
 
@@ -23,10 +22,6 @@ slot_in o t p = slot_of (slots_of o t) (group_in o t p)
 -- a place is called as its slot, where it has one
 unfoldable pub named_by_slot : Options → Parts → (ℕ → Text) → Place → Text
 named_by_slot o t name p = elim (slot_in o t p) [ None ↦ p.name | Some k ↦ name k ]
-
--- each place lies in a var scope, as it does in a Program
-abbrev pub IsRooted : Parts → Type 0
-IsRooted t = AllByRecursion (λ s. IsFalse (same_scope s.setting.var_scope [])) (sites t)
 
 -- names for a tree's slots: different ones, none of which is taken
 pub record FitSlots (o : Options) (t : Parts) (name : ℕ → Text) : Type 0 where

@@ -8,3 +8,4 @@ pub mod Rising
 pub mod Homed
 pub mod Rooted
 pub mod Linked
+pub mod TreesRooted

@@ -1,7 +1,8 @@
 -- The laws on the places of a tree.
-use Rattle.std.specs.Prelude.{◌≡◌, ◌≤◌, ◌⊎◌, ℕ, suc, true, List, [], ◌∷◌, map, length, ⊤, IsTrue}
+use Rattle.std.specs.Prelude.{◌≡◌, ◌≤◌, ◌⊎◌, ℕ, suc, true, List, [], ◌∷◌, map, length, ⊤, IsTrue, IsFalse}
 use Rattle.std.specs.List.{AllByRecursion, list_any}
-use Rattle.tree_nodes.specs.Tree.{Parts}
+use Rattle.tree_nodes.specs.Standing.{is_placed}
+use Rattle.tree_nodes.specs.Tree.{Parts, Tree, alone}
 use Rattle.tree_places.specs.Lineage.{found, found_by, lines_of, openers_of}
 use Rattle.tree_places.specs.Places.{names, scopes, sites, withs}
 use Rattle.tree_places.specs.Renaming.{IsRenamed}
@@ -33,3 +34,11 @@ NumbersRise = (t : Parts) → RiseFrom 0 (map (λ s. s.node) (sites t)) × AreNu
 -- the nearest var scope of each place is its scope or one further out
 abbrev pub VarScopesLieOutside : Type 0
 VarScopesLieOutside = (t : Parts) → AllByRecursion (λ s. IsTrue (is_inside s.setting.scope s.setting.var_scope)) (sites t)
+
+-- each place lies in a var scope
+abbrev pub IsRooted : Parts → Type 0
+IsRooted t = AllByRecursion (λ s. IsFalse (same_scope s.setting.var_scope [])) (sites t)
+
+-- so it does in a tree whose nodes stand where they may
+abbrev pub PlacedTreesAreRooted : Type 0
+PlacedTreesAreRooted = (t : Tree) → IsTrue (is_placed t) → IsRooted (alone t)

@@ -2,6 +2,7 @@
 
 ghost use Rattle.tree_places.specs.Laws.{
   NumbersRise,
+  PlacedTreesAreRooted,
   RenamingMovesNoPlace,
   ScopesAreNearest,
   VarScopesLieOutside,
@@ -29,4 +30,9 @@ pub fn numbers_rise()
 /// The law that the var scope of a place is its scope or one further out.
 pub fn var_scopes_lie_outside()
     ensures { VarScopesLieOutside }
+{}
+
+/// The law that in a tree whose nodes stand where they may each place lies in a var scope.
+pub fn placed_trees_are_rooted()
+    ensures { PlacedTreesAreRooted }
 {}

@@ -6,4 +6,7 @@
 
 mod laws;
 
-pub use laws::{numbers_rise, renaming_moves_no_place, scopes_are_nearest, var_scopes_lie_outside};
+pub use laws::{
+    numbers_rise, placed_trees_are_rooted, renaming_moves_no_place, scopes_are_nearest,
+    var_scopes_lie_outside,
+};
