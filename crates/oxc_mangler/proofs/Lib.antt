@@ -14,3 +14,7 @@ pub mod Renamed
 pub mod Used
 pub mod Mangling
 pub mod Rivals
+pub mod Bounds
+pub mod Totals
+pub mod Spelled
+pub mod Shortest

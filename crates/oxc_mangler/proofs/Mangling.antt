@@ -177,16 +177,16 @@ from-leading (s ∷ ss) ms g i = go (from-append (map group_led_by (filter (λ m
 -- ---- a tree under its new names
 
 module _ (o : Options) (t u : Parts) (has : HasNewNames o t u) where
-  abbrev name : ℕ → Text
+  abbrev pub name : ℕ → Text
   name k = get_or (names_of_slots o t) k []
 
   abbrev slotted : ℕ
   slotted = number_of_slots (slots_of o t)
 
-  new : Place → Text
+  pub new : Place → Text
   new p = cond p.site.private (new_private_name (places t) p) (named_by_slot o t name p)
 
-  new_open : (p : Place) → p.site.private ≡ false → new p ≡ named_by_slot o t name p
+  pub new_open : (p : Place) → p.site.private ≡ false → new p ≡ named_by_slot o t name p
   unfolding new
   new_open p e = ap (λ b. cond b (new_private_name (places t) p) (named_by_slot o t name p)) e
 
@@ -194,7 +194,7 @@ module _ (o : Options) (t u : Parts) (has : HasNewNames o t u) where
   unfolding new
   new_private p e = ap (λ b. cond b (new_private_name (places t) p) (named_by_slot o t name p)) e
 
-  places-new : places u ≡ map (under new) (places t)
+  pub places-new : places u ≡ map (under new) (places t)
   unfolding all_open new
   places-new =
       ap (λ ss. named_by ss (names u)) (sites-renamed t u has.renamed)
@@ -278,10 +278,10 @@ module _ (o : Options) (t u : Parts) (has : HasNewNames o t u) where
   -- ---- names that change
 
   -- a place of a group has the name of its slot
-  slot_name_of : (p : Place) (g : ℕ) → In p (places t) → group_in o t p ≡ Some g → Placed o t name has.rooted (given_names_fit o t) p g
+  pub slot_name_of : (p : Place) (g : ℕ) → In p (places t) → group_in o t p ≡ Some g → Placed o t name has.rooted (given_names_fit o t) p g
   slot_name_of p g i e = placed o t name has.rooted (given_names_fit o t) p g i e
 
-  grouped_open : (p : Place) (g : ℕ) → group_in o t p ≡ Some g → p.site.private ≡ false
+  pub grouped_open : (p : Place) (g : ℕ) → group_in o t p ≡ Some g → p.site.private ≡ false
   unfolding all_open member_at
   grouped_open p g e = told (binding same_name (places t) p)
       (λ none. absurd (both_ways false refl (ap (λ x. elim x as (λ y. Bool) [ None ↦ false | Some y ↦ true ]) (sym (ap (group_at (kept_alone o (withs t) (places t) (bound same_name (places t))) (places t) (bound same_name (places t))) none) ∙ e))))
@@ -340,7 +340,7 @@ module _ (o : Options) (t u : Parts) (has : HasNewNames o t u) where
 
   -- ---- as few as the slots
 
-  changed : List Text
+  abbrev pub changed : List Text
   changed = names_where changes (members o t) (places u)
 
   slot-names : List Text
@@ -358,8 +358,8 @@ module _ (o : Options) (t u : Parts) (has : HasNewNames o t u) where
   in-names k h = in-map name (count_from slotted 0) k (subst (λ (m : ℕ). In m (count_from slotted 0)) (let e : k + 0 ≡ k = omega arith in e) (in-count slotted 0 k h))
 
   -- each name of a slot is that of the leader of a group with the slot
-  used_name : (k : ℕ) → k < slotted → In (name k) changed
-  unfolding all_open member_at changed
+  pub used_name : (k : ℕ) → k < slotted → In (name k) changed
+  unfolding all_open member_at
   used_name k h =
       let d : (d : Slotted) × In d (slots_of o t) × (d.slot ≡ k) = slot_used o t k h in
       let g : In d.0.group (groups_of o t) = subst (In d.0.group) (slotted-groups (members o t) [] (groups_of o t)) (in-map (λ (x : Slotted). x.group) (slots_of o t) d.0 d.1) in
@@ -383,7 +383,7 @@ module _ (o : Options) (t u : Parts) (has : HasNewNames o t u) where
       some_one' {m} q = ap (λ x. elim x as (λ y. ℕ) [ None ↦ m | Some y ↦ y ]) q
 
   fewest_names : length (distinct (names_where changes (members o t) (places u))) ≡ greatest_width o t
-  unfolding all_open changed slot-names
+  unfolding all_open slot-names
   fewest_names =
       let xs : List Text = names_where changes (members o t) (places u) in
       let most : length (distinct xs) ≤ length slot-names = no_more same_name tells (distinct xs) slot-names (distinct-apart [] xs)

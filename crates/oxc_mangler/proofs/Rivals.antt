@@ -72,7 +72,7 @@ in-distinct_after before (y ∷ ys) x i = go (is_among before y) refl i (in-dist
             first (inr s) = inl s
         at (inr k) = inr (inr k)
 
-in-distinct : (xs : List Text) (x : Text) → In x xs → In x (distinct xs)
+pub in-distinct : (xs : List Text) (x : Text) → In x xs → In x (distinct xs)
 unfolding all_open
 in-distinct xs x i = go (in-distinct_after [] xs x i)
   where
@@ -80,7 +80,7 @@ in-distinct xs x i = go (in-distinct_after [] xs x i)
     go (inl e) = absurd (both_ways false refl e)
     go (inr j) = j
 
-greatest-most : (f : Scope → ℕ) (ss : List Scope) (n : ℕ) → ((s : Scope) → f s ≤ n) → greatest (map f ss) ≤ n
+pub greatest-most : (f : Scope → ℕ) (ss : List Scope) (n : ℕ) → ((s : Scope) → f s ≤ n) → greatest (map f ss) ≤ n
 unfolding all_open
 greatest-most f [] n h = omega arith
 greatest-most f (s ∷ ss) n h = let i : f s ≤ n = h s in let j : greatest (map f ss) ≤ n = greatest-most f ss n h in omega (arith, i, j)
@@ -116,7 +116,7 @@ scopes-apart before (s ∷ ss) a = (
   scopes-apart (s ∷ before) ss a.1,
 )
 
-abbrev Other : Group → Group → Type 0
+abbrev pub Other : Group → Group → Type 0
 Other g h = g ≡ h → ⊥
 
 other-homes : (leaders : List Member) (s : Scope) (ss : List Scope) → AllOf (λ r. s ≡ r → ⊥) ss → AllOf (λ (h : Group). s ≡ h.home → ⊥) (flat_map (at_scope leaders) ss)
@@ -148,7 +148,7 @@ groups-apart leaders (s ∷ ss) p q =
     (at_scope leaders s) (homes leaders s))
 
 -- where a group comes from
-group-source : (ss : List Scope) (ms : List Member) (g : Group) → In g (groups ss ms) → (m : Member) × In m ms × (leads m ≡ true) × (group_led_by m ≡ g)
+pub group-source : (ss : List Scope) (ms : List Member) (g : Group) → In g (groups ss ms) → (m : Member) × In m ms × (leads m ≡ true) × (group_led_by m ≡ g)
 unfolding all_open
 group-source [] ms g i = absurd i
 group-source (s ∷ ss) ms g i = go (from-append (map group_led_by (filter (λ n. same_scope (home n.place.site) s) (filter leads ms))) (groups ss ms) g i) (group-source ss ms g)
@@ -327,27 +327,27 @@ module _ (o : Options) (t : Parts) where
   kept = kept_alone o (withs t) (places t) (bound same_name (places t))
 
   -- a place as a member
-  abbrev member_at : Place → Member
+  abbrev pub member_at : Place → Member
   member_at p = record { place = p; binding = binding same_name (places t) p; group = group_in o t p }
 
-  members-at : members o t ≡ map member_at (places t)
+  pub members-at : members o t ≡ map member_at (places t)
   unfolding all_open
   members-at = map-map (λ (p : Place). record { place = p; binding = binding same_name (places t) p }) (λ (b : Bound Text). record { place = b.place; binding = b.binding; group = group_at kept ps bs b.binding }) (places t)
 
   -- the place that leads a group
-  record Led (g : Group) : Type 0 where
-    leader : Place
-    is : IsBindingOf same_name (places t) leader
-    group : group_in o t leader ≡ Some (node leader)
-    number : g.leader ≡ node leader
-    homed : g.home ≡ home leader.site
+  pub record Led (g : Group) : Type 0 where
+    pub leader : Place
+    pub is : IsBindingOf same_name (places t) leader
+    pub group : group_in o t leader ≡ Some (node leader)
+    pub number : g.leader ≡ node leader
+    pub homed : g.home ≡ home leader.site
 
   node_told : (x : Option ℕ) (n : ℕ) → is_node x n ≡ true → x ≡ Some n
   unfolding all_open
   node_told None n h = absurd (both_ways false refl h)
   node_told (Some m) n h = ap Some (eqb-true m n h)
 
-  led : (g : Group) → In g (groups_of o t) → Led g
+  pub led : (g : Group) → In g (groups_of o t) → Led g
   unfolding all_open
   led g i =
       let w : (m : Member) × In m (members o t) × (leads m ≡ true) × (group_led_by m ≡ g) = group-source (scopes t) (members o t) g i in
@@ -400,6 +400,13 @@ module _ (o : Options) (t : Parts) where
               let z : c.0 ≡ d.leader = one_of t c.0 d.leader (in_from_Contains (places t) c.0 c.1.is.among) (in_from_Contains (places t) d.leader d.is.among) c.1.number in
               let at : home d.leader.site ≡ b.site.setting.scope = sym (ap (λ (x : Place). home x.site) z) ∙ c.1.homed ∙ function_home b.site (shadowed t b l sh).function_name in
               here (inside-antisym s (home d.leader.site) inside (subst (λ (x : Scope). is_inside x s ≡ true) (ap (λ (x : Place). x.site.setting.scope) a ∙ sym at) deep)))
+
+  -- no group comes twice
+  pub groups-differ : PairsOf Other (groups_of o t)
+  unfolding all_open
+  groups-differ = groups-apart (filter leads (members o t)) (scopes t)
+      (filter-apart Nodes_apart leads (members o t) (subst (PairsOf Nodes_apart) (sym (members-at)) (mapped Nodes_apart member_at (places t) (nodes-apart 0 (places t) (places_rise t)))))
+      (scopes-apart [] (scopes t) (numbers_rise t).1)
 
   -- ---- a rival
 
@@ -532,12 +539,6 @@ module _ (o : Options) (t : Parts) where
 
         same : g.leader ≡ h.leader → g.home ≡ h.home → g ≡ h
         same x y = ap (λ (k : ℕ). record { leader = k; home = g.home }) x ∙ ap (λ (z : Scope). record { leader = h.leader; home = z }) y
-
-    groups-differ : PairsOf Other (groups_of o t)
-    unfolding all_open
-    groups-differ = groups-apart (filter leads (members o t)) (scopes t)
-        (filter-apart Nodes_apart leads (members o t) (subst (PairsOf Nodes_apart) (sym (members-at)) (mapped Nodes_apart member_at (places t) (nodes-apart 0 (places t) (places_rise t)))))
-        (scopes-apart [] (scopes t) (numbers_rise t).1)
 
     used : List Text
     used = distinct (names_where changes (members o t) (places w))

@@ -55,7 +55,7 @@ unfolding all_open past_five
 readable_one m n e =
     sym (digits-read (suc m) m [] (omega arith)) ∙ ap (λ x. read_digits 0 (past_five x)) e ∙ digits-read (suc n) n [] (omega arith)
 
-candidate_one : (readable : Bool) (m n : ℕ) → candidate readable m ≡ candidate readable n → m ≡ n
+pub candidate_one : (readable : Bool) (m n : ℕ) → candidate readable m ≡ candidate readable n → m ≡ n
 unfolding all_open
 candidate_one true m n e = readable_one m n e
 candidate_one false m n e = short_is_one_to_one m n e
@@ -109,12 +109,12 @@ module _ (name : ℕ → Text) (one : (m n : ℕ) → name m ≡ name n → m �
       go false ih jh = (other (first_untaken name taken fuel n (suc k)) (all-later fuel n (suc k)), jh)
 
   -- those that are passed over
-  passed : ℕ → ℕ → ℕ → List Text
+  unfoldable pub passed : ℕ → ℕ → ℕ → List Text
   passed zero n k = []
   passed (suc fuel) zero k = []
   passed (suc fuel) (suc n) k = cond (taken (name k)) (name k ∷ passed fuel (suc n) (suc k)) (passed fuel n (suc k))
 
-  passed-taken : (fuel n k : ℕ) → AllOf (λ x. taken x ≡ true) (passed fuel n k)
+  pub passed-taken : (fuel n k : ℕ) → AllOf (λ x. taken x ≡ true) (passed fuel n k)
   unfolding passed
   passed-taken zero n k = tt
   passed-taken (suc fuel) zero k = tt
@@ -135,7 +135,7 @@ module _ (name : ℕ → Text) (one : (m n : ℕ) → name m ≡ name n → m �
       go true ih jh = ((k, omega arith, refl), ih)
       go false ih jh = jh
 
-  passed-different : (fuel n k : ℕ) → PairsOf (λ x y. x ≡ y → ⊥) (passed fuel n k)
+  pub passed-different : (fuel n k : ℕ) → PairsOf (λ x y. x ≡ y → ⊥) (passed fuel n k)
   unfolding passed
   passed-different zero n k = tt
   passed-different (suc fuel) zero k = tt

@@ -14,3 +14,5 @@ pub mod PrivateLaws
 pub mod MangledLaws
 pub mod Open
 pub mod Rivals
+pub mod Bounds
+pub mod Shortest

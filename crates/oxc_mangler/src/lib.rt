@@ -1,14 +1,16 @@
 //! The names that mangling gives: definitions that contracts cite.
 #![tactic(auto)]
 
+mod bound_laws;
 mod laws;
+mod rival_laws;
+mod shortest_laws;
 
+pub use bound_laws::names_are_bounded;
 pub use laws::{
     given_names_keep_bindings, lengths_never_fall, live_together, live_up_to_home,
     new_names_mangle, private_names_keep_bindings, private_numbers_differ, short_is_one_to_one,
     slot_names_keep_bindings, slots_are_fewest, slots_never_clash,
 };
-
-mod rival_laws;
-
 pub use rival_laws::no_rival_uses_fewer;
+pub use shortest_laws::no_choice_is_shorter;

@@ -4,7 +4,7 @@ use Rattle.std.specs.List.{list_any}
 use Rattle.oxc_mangler.specs.Groups.{greatest_width, members}
 use Rattle.oxc_mangler.specs.Mangled.{changes, implied, names_where, stays, unshadowed}
 use Rattle.oxc_mangler.specs.Options.{Options}
-use Rattle.tree_nodes.specs.Tree.{Parts}
+use Rattle.tree_nodes.specs.Tree.{Parts, Text}
 use Rattle.tree_nodes.specs.declared.kind.Kind.TheVariants.{FunctionExpression}
 use Rattle.tree_places.specs.Places.{Place, places}
 use Rattle.tree_places.specs.Renaming.{IsRenamed}
@@ -13,7 +13,7 @@ use Rattle.tree_semantic.specs.Faults.{has_fault}
 use Rattle.tree_semantic.specs.Homes.{declares, home}
 use Rattle.tree_semantic.specs.PrivateNames.{distinct, private_bindings}
 use Rattle.tree_semantic.specs.Renamings.{is_live_in}
-use Rattle.worked_rows.specs.Makers.{body, ident, list, node as made, off, script, statement}
+use Rattle.worked_rows.specs.Makers.{block, body, declaration, declarator, ident, list, module_of, node as made, number, off, script, statement}
 
 -- ---- bindings in use together that have one name
 
@@ -53,3 +53,17 @@ pub record TakesFewerByShadowing (t : Parts) (o : Options) (w : Parts) : Type 0 
   pub stay : names_where (stays (places t)) (members o t) (places w) ≡ names_where (stays (places t)) (members o t) (places t)
   pub shadows : IsFalse (implied (unshadowed (places t)) (unshadowed (places w)))
   pub fewer : number_of_names o t w < greatest_width o t
+
+-- ---- names by choice
+
+-- module: { let slot_0 = 1; slot_0 } { let slot_0 = 2; slot_0 }
+abbrev pub sibling_blocks_readably : Parts
+sibling_blocks_readably =
+    module_of
+    (block (declaration 1 (declarator (ident (codes "slot_0")) (number 1 (codes "1")) ∷ []) ∷ statement (ident (codes "slot_0")) ∷ [])
+    ∷ block (declaration 1 (declarator (ident (codes "slot_0")) (number 2 (codes "2")) ∷ []) ∷ statement (ident (codes "slot_0")) ∷ [])
+    ∷ [])
+
+-- the choice of one name for all
+abbrev pub always : Text → Text → Text
+always name x = name

@@ -1,16 +1,19 @@
-//! The premises of the laws on separation and on rivals: a tree that meets them, and what breaks where
-//! one is dropped.
+//! The premises of the laws on separation, on rivals and on short names: a tree that meets them, and what
+//! breaks where one is dropped.
 
-ghost use Rattle.std.specs.Prelude.{IsFalse, IsTrue};
+ghost use Rattle.std.specs.Prelude.{◌≡◌, IsFalse, IsTrue, codes, map};
+ghost use Rattle.oxc_mangler.specs.Mangled.{cost};
+ghost use Rattle.oxc_mangler.specs.MangledLaws.{HasNewNames};
+ghost use Rattle.oxc_mangler.specs.Shortest.{IsChoice, changed_names};
 ghost use Rattle.tree_places.specs.Places.{places, sites};
 ghost use Rattle.tree_semantic.specs.Bindings.{same_name};
 ghost use Rattle.tree_semantic.specs.Faults.{has_crossing};
 ghost use Rattle.tree_semantic.specs.Separation.{function_names_apart};
-ghost use Rattle.worked_rows.specs.Asked.{defaults};
+ghost use Rattle.worked_rows.specs.Asked.{defaults, readably};
 ghost use Rattle.worked_rows.specs.Blocks as blocks;
 ghost use Rattle.worked_rows.specs.Faulty as faulty;
 ghost use Rattle.worked_rows.specs.Functions as functions;
-ghost use Rattle.worked_rows.specs.RivalRows.{TakesFewerByShadowing, has_meeting, named_twice};
+ghost use Rattle.worked_rows.specs.RivalRows.{TakesFewerByShadowing, always, has_meeting, named_twice, sibling_blocks_readably};
 
 /// A tree without a crossing whose functions have one name each: no two of its bindings meet. One of
 /// the bindings here is a function-name that is shadowed.
@@ -39,4 +42,19 @@ pub fn rivals_have_premises()
 /// What newly shadows a function's own name does with fewer names than any rival.
 pub fn shadowing_takes_fewer()
     ensures { TakesFewerByShadowing functions.unshadowed_name (defaults functions.unshadowed_name) functions.shadowed_name }
+{}
+
+/// A tree under its new names, and another free name for all of them: one name is what they are all called.
+pub fn names_are_chosen()
+    ensures new { HasNewNames (defaults blocks.sibling_blocks) blocks.sibling_blocks blocks.sibling_blocks_mangled }
+    ensures choice { IsChoice (defaults blocks.sibling_blocks) blocks.sibling_blocks blocks.sibling_blocks_mangled (always (codes "t")) }
+{}
+
+/// Readable names aren't shortest: a choice of a free name for theirs is shorter.
+pub fn readable_names_are_longer()
+    ensures new { HasNewNames (readably blocks.sibling_blocks) blocks.sibling_blocks sibling_blocks_readably }
+    ensures choice { IsChoice (readably blocks.sibling_blocks) blocks.sibling_blocks sibling_blocks_readably (always (codes "e")) }
+    ensures chosen { changed_names (readably blocks.sibling_blocks) blocks.sibling_blocks blocks.sibling_blocks_mangled ≡ map (always (codes "e")) (changed_names (readably blocks.sibling_blocks) blocks.sibling_blocks sibling_blocks_readably) }
+    ensures longer { cost (readably blocks.sibling_blocks) blocks.sibling_blocks sibling_blocks_readably ≡ 12 }
+    ensures shorter { cost (readably blocks.sibling_blocks) blocks.sibling_blocks blocks.sibling_blocks_mangled ≡ 2 }
 {}
