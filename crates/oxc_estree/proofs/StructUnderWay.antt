@@ -1,6 +1,6 @@
 -- A struct on the way: what was written, and which fields are left. A caller that writes a struct keeps
 -- such a fact from call to call; each exit then wants one lemma.
-use Rattle.std.proofs.Common.{◌≡◌, ℕ, List, [], ◌∷◌, ◌++◌, Bool, true, false, ap, ◌∙◌, sym, refl}
+use Rattle.std.proofs.Common.{◌≡◌, ℕ, List, [], ◌∷◌, ◌++◌, Bool, true, false, ap, ◌∙◌, sym, refl, subst, append-nil}
 use Rattle.oxc_estree.specs.Out.{Out, Flags, flags, Meaning, wrote, begun_struct, begun_field, ended_field}
 use Rattle.oxc_estree.specs.Open.{Field, OpenStruct, new_struct, opened, add_field, add_fields, closed, object_of}
 use Rattle.oxc_estree.specs.Refused.{IsCutShort}
@@ -57,6 +57,19 @@ fields_refused {o} {full} {s} {n} fs left u h =
     let at : IsCutShort s.out n t.out = rw (flags_from u.grown.flags) at h in
     let ends : closed (add_fields t left) ≡ full = ap closed (sym (add_fields-append s (fs (flags o)) left)) ∙ u.ends in
     cut_short_after u.grown (cut_short_before (rw (← ends) (Grows-trans (Grows-add_fields t left) (Grows-closed (add_fields t left)))) at)
+
+-- the last fields
+pub last_fields_written : {o full : Out} {s t : OpenStruct} (fs : Flags → List Field) →
+    IsStructUnderWay o s (fs (flags o)) full →
+    t ≡ add_fields s (fs (flags s.out)) → IsStructUnderWay o t [] full
+last_fields_written {o} {full} {s} fs u e =
+    fields_written {left = []} fs (subst (λ (l : List Field). IsStructUnderWay o s l full) (sym (append-nil (fs (flags o)))) u) e
+
+pub last_fields_refused : {o full : Out} {s : OpenStruct} {n : Out} (fs : Flags → List Field) →
+    IsStructUnderWay o s (fs (flags o)) full →
+    IsCutShort s.out n (add_fields s (fs (flags s.out))).out → IsCutShort o n full
+last_fields_refused {o} {full} {s} fs u h =
+    fields_refused fs [] (subst (λ (l : List Field). IsStructUnderWay o s l full) (sym (append-nil (fs (flags o)))) u) h
 
 pub struct_ended : {o full : Out} {s : OpenStruct} {n : Out} → IsStructUnderWay o s [] full → n ≡ closed s → n ≡ full
 struct_ended u e = e ∙ u.ends

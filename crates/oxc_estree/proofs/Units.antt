@@ -20,25 +20,25 @@ below_or_above c = by_test (nat_lt c 65536) refl
     by_test true e = inl (grind (arith, nat_tests))
     by_test false e = inr (grind (arith, nat_tests))
 
-no_lead : (c : ℕ) → (c < 55296) ⊎ (56320 ≤ c) → is_lead c ≡ false
+pub no_lead : (c : ℕ) → (c < 55296) ⊎ (56320 ≤ c) → is_lead c ≡ false
 no_lead c h = grind (arith, nat_tests)
 
-no_trail : (c : ℕ) → (c < 56320) ⊎ (57344 ≤ c) → is_trail c ≡ false
+pub no_trail : (c : ℕ) → (c < 56320) ⊎ (57344 ≤ c) → is_trail c ≡ false
 no_trail c h = grind (arith, nat_tests)
 
-lead : (c : ℕ) → 55296 ≤ c → c < 56320 → is_lead c ≡ true
+pub lead : (c : ℕ) → 55296 ≤ c → c < 56320 → is_lead c ≡ true
 lead c a b = grind (arith, nat_tests)
 
-trail : (c : ℕ) → 56320 ≤ c → c < 57344 → is_trail c ≡ true
+pub trail : (c : ℕ) → 56320 ≤ c → c < 57344 → is_trail c ≡ true
 trail c a b = grind (arith, nat_tests)
 
-high_text : (c : ℕ) → 65536 ≤ c → char_text c ≡ encode_utf8 c
+pub high_text : (c : ℕ) → 65536 ≤ c → char_text c ≡ encode_utf8 c
 high_text c h = grind (arith, nat_tests)
 
-low_units : (c : ℕ) → c < 65536 → encode_utf16 c ≡ c ∷ []
+pub low_units : (c : ℕ) → c < 65536 → encode_utf16 c ≡ c ∷ []
 low_units c h = grind (arith, nat_tests)
 
-high_units : (c : ℕ) → 65536 ≤ c → encode_utf16 c ≡ (55296 + (c - 65536) / 1024) ∷ (56320 + (c - 65536) % 1024) ∷ []
+pub high_units : (c : ℕ) → 65536 ≤ c → encode_utf16 c ≡ (55296 + (c - 65536) / 1024) ∷ (56320 + (c - 65536) % 1024) ∷ []
 high_units c h = grind (arith, nat_tests)
 
 low_step : (c : ℕ) (us : List ℕ) → is_lead c ≡ false → is_trail c ≡ false → units_text None (c ∷ us) ≡ char_text c ++ units_text None us

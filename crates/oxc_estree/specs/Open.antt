@@ -1,8 +1,8 @@
 -- Structs and lists that stand open, and what ends them.
-use Rattle.std.specs.Prelude.{ℕ, suc, List, [], ◌∷◌, ◌++◌, Bool, true, false, cond, map}
-use Rattle.json_text.specs.Json.{list, object, Items, no_items, item, Members, no_members, member}
+use Rattle.std.specs.Prelude.{ℕ, suc, pos, List, [], ◌∷◌, ◌++◌, Bool, true, false, cond, map, codes}
+use Rattle.json_text.specs.Json.{list, object, whole, Items, no_items, item, Members, no_members, member}
 use Rattle.json_text.specs.Units.{units_of}
-use Rattle.oxc_estree.specs.Out.{Out, Part, key, index, Meaning, wrote, begun_struct, begun_field, ended_field, ended_struct, begun_list, begun_element, ended_list, is_zero}
+use Rattle.oxc_estree.specs.Out.{Out, Flags, Part, key, index, Meaning, plain, wrote, begun_struct, begun_field, ended_field, ended_struct, begun_list, begun_element, ended_list, is_zero}
 
 -- a key, as the bytes of its text, and what stands there
 pub record Field : Type 0 where
@@ -55,6 +55,13 @@ field_marks (f ∷ fs) = map (λ m. key f.name ∷ m) f.meaning.marks ++ field_m
 abbrev pub object_of : List Field → Meaning
 object_of fs = record { value = object (members_of fs); marks = field_marks fs }
 
+-- a field that is there only without TS fields, and one that is there only with them
+abbrev pub js_field : Flags → List ℕ → Meaning → List Field
+js_field f k m = cond f.ts [] (record { name = k; meaning = m } ∷ [])
+
+abbrev pub ts_field : Flags → List ℕ → Meaning → List Field
+ts_field f k m = cond f.ts (record { name = k; meaning = m } ∷ []) []
+
 -- a list of which nothing is written yet, and one of which the bracket is
 abbrev pub new_list : Out → OpenList
 new_list o = record { out = o; begun = false; count = 0 }
@@ -88,3 +95,18 @@ element_marks i (m ∷ ms) = map (λ p. index i ∷ p) m.marks ++ element_marks 
 -- the list of these elements
 abbrev pub list_of : List Meaning → Meaning
 list_of ms = record { value = list (items_of ms); marks = element_marks 0 ms }
+
+abbrev pub number : ℕ → Meaning
+number n = plain (whole (pos n))
+
+-- the field with both ends of a span, where ranges are asked for
+abbrev pub range_field : Flags → ℕ → ℕ → List Field
+range_field f start end =
+    cond f.ranges (record { name = codes "range"; meaning = list_of (number start ∷ number end ∷ []) } ∷ []) []
+
+-- the fields of a span
+abbrev pub span_fields : Flags → ℕ → ℕ → List Field
+span_fields f start end =
+    record { name = codes "start"; meaning = number start }
+    ∷ record { name = codes "end"; meaning = number end }
+    ∷ range_field f start end

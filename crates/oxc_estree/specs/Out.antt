@@ -11,8 +11,8 @@ pub data Part : Type 0 where
   index : ℕ → Part
 
 -- The text so far, where white space stands in it, the path of the field or element that is being
--- written, the text of the fix paths so far (a comma before each), and what was asked for: whether
--- fix paths are recorded, and whether there are TS fields and ranges.
+-- written (where fix paths are recorded), the text of the fix paths so far (a comma before each), and
+-- what was asked for: whether fix paths are recorded, and whether there are TS fields and ranges.
 pub record Out : Type 0 where
   pub text : List ℕ
   pub layout : Layout
@@ -89,6 +89,13 @@ layout_inside first l = cond first (deeper l) l
 abbrev pub layout_outside : Bool → Layout → Layout
 layout_outside empty l = cond empty l (shallower l)
 
+-- the path inside a field or element, and after it; there is no path where none is recorded
+abbrev pub path_inside : Bool → List Part → Part → List Part
+path_inside records path p = cond records (path ++ p ∷ []) path
+
+abbrev pub path_outside : Bool → List Part → List Part
+path_outside records path = cond records (front path) path
+
 abbrev pub is_zero : ℕ → Bool
 is_zero zero = true
 is_zero (suc n) = false
@@ -104,16 +111,16 @@ begun_field first k o = let l = layout_inside first o.layout in
     record o {
       text = o.text ++ (before first l ++ key_text l (units_of k));
       layout = l;
-      path = o.path ++ key k ∷ [];
+      path = path_inside o.records o.path (key k);
     }
 
 abbrev pub begun_element : ℕ → Out → Out
 begun_element i o = let l = layout_inside (is_zero i) o.layout in
-    record o { text = o.text ++ before (is_zero i) l; layout = l; path = o.path ++ index i ∷ [] }
+    record o { text = o.text ++ before (is_zero i) l; layout = l; path = path_inside o.records o.path (index i) }
 
 -- after a field, and after an element
 abbrev pub ended_field : Out → Out
-ended_field o = record o { path = front o.path }
+ended_field o = record o { path = path_outside o.records o.path }
 
 abbrev pub ended_struct : Bool → Out → Out
 ended_struct empty o = let l = layout_outside empty o.layout in

@@ -34,6 +34,42 @@ pub trait Config {
         ensures { result ≡ with_ranges self.now };
 }
 
+/// A config that records no fix paths.
+#[derive(Drop)]
+pub struct ConfigNoFixes {
+    include_ts_fields: bool,
+    ranges: bool,
+}
+
+impl Config for ConfigNoFixes {
+    ghost use Rattle.std.specs.Prelude.{false};
+
+    ghost ts = { λ c. c.include_ts_fields };
+
+    ghost with_ranges = { λ c. c.ranges };
+
+    ghost records = { false };
+
+    fn new(include_ts_fields: bool, ranges: bool) -> Self {
+        ConfigNoFixes {
+            include_ts_fields,
+            ranges,
+        }
+    }
+
+    fn include_ts_fields(&self) -> bool {
+        self.include_ts_fields
+    }
+
+    fn fixes(&self) -> bool {
+        false
+    }
+
+    fn ranges(&self) -> bool {
+        self.ranges
+    }
+}
+
 /// A config that records fix paths.
 #[derive(Drop)]
 pub struct ConfigFixes {

@@ -1,6 +1,6 @@
 //! The serializer that writes to a buffer of its own.
 
-ghost use Rattle.std.specs.Prelude.{◌≡◌, IfOk, IsTrue, OnOk, refl, string_bytes};
+ghost use Rattle.std.specs.Prelude.{◌≡◌, ◌≤◌, IfOk, IsTrue, OnOk, refl, string_bytes};
 ghost use Rattle.json_text.specs.Layout.{start_layout};
 ghost use Rattle.oxc_data_structures.specs.CodeBuffer.{Appends};
 ghost use Rattle.oxc_estree.specs.Envelope.{envelope, fixes_member};
@@ -8,9 +8,25 @@ ghost use Rattle.oxc_estree.specs.Out.{IsNew, flags, new_out};
 ghost use Rattle.oxc_estree.specs.TracePathPart.{path_of};
 
 use crate::pieces::{print_before, print_closing, print_fixes, print_key, print_path};
-use crate::{Config, ESTree, Formatter, Serializer, TracePathPart};
+use crate::trace_path::{step_in, step_out};
+use crate::{
+    CompactFormatter, Config, ConfigFixes, ConfigNoFixes, ESTree, Formatter, PrettyFormatter,
+    Serializer, TracePathPart,
+};
 use oxc_data_structures::code_buffer::CodeBuffer;
 use std::alloc::{AllocError, Global};
+
+/// A serializer that writes compact JSON.
+pub type CompactSerializer = ESTreeSerializer<ConfigNoFixes, CompactFormatter>;
+
+/// A serializer that writes pretty JSON.
+pub type PrettySerializer = ESTreeSerializer<ConfigNoFixes, PrettyFormatter>;
+
+/// A serializer that writes compact JSON, and records fix paths.
+pub type CompactFixesSerializer = ESTreeSerializer<ConfigFixes, CompactFormatter>;
+
+/// A serializer that writes pretty JSON, and records fix paths.
+pub type PrettyFixesSerializer = ESTreeSerializer<ConfigFixes, PrettyFormatter>;
 
 /// A serializer that writes to a buffer of its own.
 #[derive(Drop)]
@@ -30,6 +46,26 @@ impl<C: Config + Drop, F: Formatter + Drop> ESTreeSerializer<C, F> {
     {
         Ok(ESTreeSerializer {
             buffer: CodeBuffer::new(alloc),
+            formatter: F::new(),
+            trace_path: Vec::new(alloc),
+            fixes: CodeBuffer::new(alloc),
+            config: C::new(include_ts_fields, ranges),
+        })
+    }
+
+    /// A serializer to which nothing was written yet, with room for `capacity` bytes of text.
+    pub fn with_capacity(
+        alloc: Global,
+        capacity: usize,
+        include_ts_fields: bool,
+        ranges: bool,
+    ) -> Result<Self, AllocError>
+        ensures new { IfOk result (λ s. ⟦<ESTreeSerializer<C, F> as Serializer>⟧.out s
+            ≡ new_out C.records F.IS_COMPACT include_ts_fields ranges) }
+        ensures room { IfOk result (λ s. capacity ≤ s.buffer.capacity) }
+    {
+        Ok(ESTreeSerializer {
+            buffer: CodeBuffer::with_capacity(alloc, capacity)?,
             formatter: F::new(),
             trace_path: Vec::new(alloc),
             fixes: CodeBuffer::new(alloc),
@@ -122,12 +158,15 @@ impl<C: Config + Drop, F: Formatter + Drop> Serializer for ESTreeSerializer<C, F
     fn begin_field(&mut self, key: &'static str, first: bool) -> Result<(), AllocError> {
         print_before(&mut self.formatter, &mut self.buffer, first)?;
         print_key(&mut self.formatter, &mut self.buffer, key)?;
-        self.trace_path.push(TracePathPart::Key(key))?;
-        Ok(())
+        step_in(
+            &mut self.trace_path,
+            self.config.fixes(),
+            TracePathPart::Key(key),
+        )
     }
 
     fn end_field(&mut self) {
-        let _ = self.trace_path.pop();
+        step_out(&mut self.trace_path, self.config.fixes());
     }
 
     fn end_struct(&mut self, empty: bool) -> Result<(), AllocError> {
@@ -141,12 +180,15 @@ impl<C: Config + Drop, F: Formatter + Drop> Serializer for ESTreeSerializer<C, F
 
     fn begin_element(&mut self, index: usize) -> Result<(), AllocError> {
         print_before(&mut self.formatter, &mut self.buffer, index == 0)?;
-        self.trace_path.push(TracePathPart::Index(index))?;
-        Ok(())
+        step_in(
+            &mut self.trace_path,
+            self.config.fixes(),
+            TracePathPart::Index(index),
+        )
     }
 
     fn end_element(&mut self) {
-        let _ = self.trace_path.pop();
+        step_out(&mut self.trace_path, self.config.fixes());
     }
 
     fn end_sequence(&mut self, empty: bool) -> Result<(), AllocError> {

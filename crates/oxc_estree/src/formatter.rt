@@ -1,7 +1,7 @@
 //! White space between the tokens of the output.
 
 ghost use Rattle.std.specs.Prelude.{◌≡◌, Bool, OnErr, OnOk};
-ghost use Rattle.json_text.specs.Layout.{Layout, compact, deeper, is_compact, new_line, shallower, space, start_layout};
+ghost use Rattle.json_text.specs.Layout.{Layout, compact, deeper, is_compact, new_line, pretty, shallower, space, start_layout};
 ghost use Rattle.oxc_data_structures.specs.CodeBuffer.{Appends};
 ghost use Rattle.oxc_estree.specs.Refused.{IsPartlyPrinted};
 
@@ -89,4 +89,60 @@ impl Formatter for CompactFormatter {
     fn after_last_element(&mut self, _buffer: &mut CodeBuffer) -> Result<(), AllocError> {
         Ok(())
     }
+}
+
+/// A formatter that puts each field and each element on a line of its own, two spaces further in for
+/// each struct and list that stands open, and a space behind each colon.
+///
+/// An empty struct or list stays on its line, as `{}` or `[]`.
+#[derive(Drop)]
+pub struct PrettyFormatter {
+    indent: usize,
+}
+
+impl Formatter for PrettyFormatter {
+    ghost use Rattle.std.specs.Prelude.{false, refl};
+
+    ghost layout = { λ f. pretty f.indent };
+
+    ghost IS_COMPACT = { false };
+
+    ghost compact_is = { λ _. refl };
+
+    const IS_COMPACT: bool = false;
+
+    fn new() -> Self {
+        PrettyFormatter { indent: 0 }
+    }
+
+    // No text has room for `usize::MAX` levels.
+    fn before_first_element(&mut self, buffer: &mut CodeBuffer) -> Result<(), AllocError> {
+        self.indent = self.indent.checked_add(1).ok_or(AllocError)?;
+        print_new_line(buffer, self.indent)
+    }
+
+    fn before_later_element(&mut self, buffer: &mut CodeBuffer) -> Result<(), AllocError> {
+        print_new_line(buffer, self.indent)
+    }
+
+    fn before_field_value(&mut self, buffer: &mut CodeBuffer) -> Result<(), AllocError> {
+        buffer.print_ascii_byte(b' ')
+    }
+
+    fn after_last_element(&mut self, buffer: &mut CodeBuffer) -> Result<(), AllocError> {
+        self.indent = self.indent.saturating_sub(1);
+        print_new_line(buffer, self.indent)
+    }
+}
+
+// Two spaces a level, whatever the buffer's own indent is.
+fn print_new_line(buffer: &mut CodeBuffer, levels: usize) -> Result<(), AllocError>
+    ensures ok { OnOk result (Appends buffer.old buffer.new (new_line (pretty levels))) }
+    ensures refused { OnErr result (IsPartlyPrinted buffer.old buffer.new (new_line (pretty levels))) }
+{
+    buffer.print_ascii_byte(b'\n')?;
+    for _level in 0..levels {
+        buffer.print_str("  ")?;
+    }
+    Ok(())
 }

@@ -3,25 +3,43 @@
 
 ghost use Rattle.oxc_estree.specs.Envelope.{EnvelopeReadsAlone};
 
+mod code_points;
+mod concat;
 mod config;
 mod estree_serializer;
 mod formatter;
+mod integers;
 mod pieces;
+mod scan;
 mod sequences;
 mod serializer;
 mod strings;
+#[cfg(test)]
+mod struct_tests;
 mod structs;
 #[cfg(test)]
 mod tests;
 mod trace_path;
+#[cfg(test)]
+mod trait_tests;
+#[cfg(test)]
+mod value_tests;
 mod values;
 
-pub use config::{Config, ConfigFixes};
-pub use estree_serializer::ESTreeSerializer;
-pub use formatter::{CompactFormatter, Formatter};
+pub use code_points::{CodePoints, LoneSurrogatesString};
+pub use concat::{Concat2, Concat3, ConcatElement};
+pub use config::{Config, ConfigFixes, ConfigNoFixes};
+pub use estree_serializer::{
+    CompactFixesSerializer, CompactSerializer, ESTreeSerializer, PrettyFixesSerializer,
+    PrettySerializer,
+};
+pub use formatter::{CompactFormatter, Formatter, PrettyFormatter};
+pub use scan::get_escapes_mask;
 pub use sequences::{ESTreeSequenceSerializer, SequenceSerializer};
 pub use serializer::{ESTree, Serializer};
-pub use structs::{ESTreeStructSerializer, StructSerializer};
+pub use structs::{
+    ESTreeSpan, ESTreeStructSerializer, Fields, FlatStructSerializer, StructSerializer,
+};
 pub use trace_path::TracePathPart;
 pub use values::{JsonSafeString, JsonSlice, JsonStr};
 

@@ -1,7 +1,7 @@
 //! Values that can be written.
 
-ghost use Rattle.std.specs.Prelude.{◌≡◌, map, pos};
-ghost use Rattle.json_text.specs.Json.{null, string, truth, whole};
+ghost use Rattle.std.specs.Prelude.{◌≡◌, map, string_bytes};
+ghost use Rattle.json_text.specs.Json.{null, string, truth};
 ghost use Rattle.json_text.specs.Units.{units_of};
 ghost use Rattle.oxc_estree.specs.Open.{list_of};
 ghost use Rattle.oxc_estree.specs.Out.{plain};
@@ -28,24 +28,6 @@ impl ESTree for () {
     }
 }
 
-impl ESTree for u32 {
-    ghost meaning = { λ n _. plain (whole (pos n)) };
-
-    fn serialize<S: Serializer>(&self, serializer: &mut S) -> Result<(), AllocError> {
-        let mut buffer = itoa::Buffer::new();
-        serializer.buffer_mut().print_str(buffer.format(*self))
-    }
-}
-
-impl ESTree for u64 {
-    ghost meaning = { λ n _. plain (whole (pos n)) };
-
-    fn serialize<S: Serializer>(&self, serializer: &mut S) -> Result<(), AllocError> {
-        let mut buffer = itoa::Buffer::new();
-        serializer.buffer_mut().print_str(buffer.format(*self))
-    }
-}
-
 /// `None` is null.
 impl<T: ESTree> ESTree for Option<T> {
     ghost meaning = { λ o f. option_meaning (λ v. T.meaning v f) o };
@@ -63,6 +45,22 @@ impl<T: ESTree> ESTree for &T {
 
     fn serialize<S: Serializer>(&self, serializer: &mut S) -> Result<(), AllocError> {
         (**self).serialize(serializer)
+    }
+}
+
+impl<T: ESTree> ESTree for &mut T {
+    ghost meaning = { λ v f. T.meaning v.now f };
+
+    fn serialize<S: Serializer>(&self, serializer: &mut S) -> Result<(), AllocError> {
+        (**self).serialize(serializer)
+    }
+}
+
+impl ESTree for String {
+    ghost meaning = { λ s _. plain (string (units_of (string_bytes s))) };
+
+    fn serialize<S: Serializer>(&self, serializer: &mut S) -> Result<(), AllocError> {
+        print_quoted(serializer.buffer_mut(), self.as_str())
     }
 }
 
@@ -104,5 +102,13 @@ impl<'a, T: ESTree> ESTree for JsonSlice<'a, T> {
             sequence.serialize_element(element)?;
         }
         sequence.end()
+    }
+}
+
+impl<T: ESTree, const N: usize> ESTree for [T; N] {
+    ghost meaning = { λ v f. list_of (map (λ x. T.meaning x f) v) };
+
+    fn serialize<S: Serializer>(&self, serializer: &mut S) -> Result<(), AllocError> {
+        JsonSlice(self.as_slice()).serialize(serializer)
     }
 }

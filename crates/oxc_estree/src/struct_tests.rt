@@ -1,0 +1,161 @@
+//! What structs look like, by the flags and in both layouts.
+
+ghost use Rattle.std.specs.Prelude.{◌++◌, codes, false};
+ghost use Rattle.json_text.specs.Json.{string, truth};
+ghost use Rattle.json_text.specs.Units.{units_of};
+ghost use Rattle.oxc_estree.specs.Open.{js_field, object_of, span_fields, ts_field};
+ghost use Rattle.oxc_estree.specs.Out.{plain};
+
+use super::*;
+use oxc_data_structures::code_buffer::CodeBuffer;
+use std::alloc::{AllocError, Global};
+use std::test::Fail;
+
+#[derive(Clone, Copy, Drop)]
+struct Place {
+    start: u32,
+    end: u32,
+}
+
+impl ESTreeSpan for Place {
+    ghost start = { λ p. p.start };
+
+    ghost end = { λ p. p.end };
+
+    fn range(self) -> [u32; 2] {
+        [self.start, self.end]
+    }
+}
+
+impl Fields for Place {
+    ghost fields = { λ p f. span_fields f p.start p.end };
+
+    fn serialize_fields<P: StructSerializer>(&self, serializer: &mut P) -> Result<(), AllocError> {
+        serializer.serialize_span(*self)
+    }
+}
+
+#[derive(Drop)]
+struct Named<'a> {
+    place: Place,
+    name: &'a str,
+}
+
+impl<'a> ESTree for Named<'a> {
+    ghost meaning = { λ n f. object_of
+        (span_fields f n.place.start n.place.end
+        ++ (js_field f (codes "raw") (plain (string (units_of n.name.now)))
+        ++ ts_field f (codes "optional") (plain (truth false)))) };
+
+    fn serialize<S: Serializer>(&self, serializer: &mut S) -> Result<(), AllocError> {
+        let mut state = ESTreeStructSerializer::new(serializer)?;
+        FlatStructSerializer(&mut state).write(&self.place)?;
+        state.serialize_js_field("raw", &JsonStr(self.name))?;
+        state.serialize_ts_field("optional", &false)?;
+        state.end()
+    }
+}
+
+fn text<C: Config + Drop, F: Formatter + Drop, T: ESTree>(
+    alloc: Global,
+    ts: bool,
+    ranges: bool,
+    value: &T,
+) -> Result<String, AllocError> {
+    let mut serializer = ESTreeSerializer::<C, F>::with_capacity(alloc, 9, ts, ranges)?;
+    value.serialize(&mut serializer)?;
+    Ok(serializer.into_string())
+}
+
+fn compact<T: ESTree>(
+    alloc: Global,
+    ts: bool,
+    ranges: bool,
+    value: &T,
+) -> Result<String, AllocError> {
+    text::<ConfigNoFixes, CompactFormatter, T>(alloc, ts, ranges, value)
+}
+
+fn pretty<T: ESTree>(alloc: Global, value: &T) -> Result<String, AllocError> {
+    text::<ConfigFixes, PrettyFormatter, T>(alloc, false, true, value)
+}
+
+const NAMED: Named<'static> = Named {
+    place: Place { start: 1, end: 5 },
+    name: "x",
+};
+
+#[test]
+fn fields_by_flags(rt: HostRuntime) -> Result<(), Fail> {
+    let rows = [
+        (false, false, "{\"start\":1,\"end\":5,\"raw\":\"x\"}"),
+        (
+            false,
+            true,
+            "{\"start\":1,\"end\":5,\"range\":[1,5],\"raw\":\"x\"}",
+        ),
+        (true, false, "{\"start\":1,\"end\":5,\"optional\":false}"),
+        (
+            true,
+            true,
+            "{\"start\":1,\"end\":5,\"range\":[1,5],\"optional\":false}",
+        ),
+    ];
+    for (ts, ranges, want) in rows {
+        let text = compact(rt.alloc(), ts, ranges, &NAMED)?;
+        assert_eq!(rt; text.as_str(), want);
+    }
+    Ok(())
+}
+
+#[test]
+fn pretty_texts(rt: HostRuntime) -> Result<(), Fail> {
+    let lists = [JsonSlice(&[]), JsonSlice(&[None, Some(true)])];
+    assert_eq!(rt;
+        pretty(rt.alloc(), &JsonSlice(&lists))?.as_str(),
+        "[\n  [],\n  [\n    null,\n    true\n  ]\n]"
+    );
+    assert_eq!(rt;
+        pretty(rt.alloc(), &NAMED)?.as_str(),
+        "{\n  \"start\": 1,\n  \"end\": 5,\n  \"range\": [\n    1,\n    5\n  ],\n  \"raw\": \"x\"\n}"
+    );
+    Ok(())
+}
+
+#[test]
+fn serializers_by_alias(rt: HostRuntime) -> Result<(), Fail> {
+    let alloc = rt.alloc();
+    let mut serializer = CompactSerializer::new(alloc, false, false)?;
+    JsonSlice(&[true]).serialize(&mut serializer)?;
+    assert_eq!(rt; serializer.into_string().as_str(), "[true]");
+    let mut serializer = PrettySerializer::new(alloc, false, false)?;
+    JsonSlice(&[true]).serialize(&mut serializer)?;
+    assert_eq!(rt; serializer.into_string().as_str(), "[\n  true\n]");
+    let serializer = CompactFixesSerializer::new(alloc, false, false)?;
+    assert_eq!(rt;
+        serializer
+            .serialize_with_fixes(&JsonSlice(&[true]))?
+            .as_str(),
+        "{\"node\":\n[true]\n,\"fixes\":[]}"
+    );
+    let serializer = PrettyFixesSerializer::new(alloc, false, false)?;
+    assert_eq!(rt;
+        serializer
+            .serialize_with_fixes(&JsonSlice(&[true]))?
+            .as_str(),
+        "{\"node\":\n[\n  true\n]\n,\"fixes\":[]}"
+    );
+    Ok(())
+}
+
+#[test]
+fn levels_that_were_not_opened(rt: HostRuntime) -> Result<(), Fail> {
+    let mut buffer = CodeBuffer::new(rt.alloc());
+    let mut formatter = PrettyFormatter::new();
+    formatter.after_last_element(&mut buffer)?;
+    assert_eq!(rt; buffer.as_str(), "\n");
+    formatter.before_first_element(&mut buffer)?;
+    assert_eq!(rt; buffer.as_str(), "\n\n  ");
+    assert!(rt; TracePathPart::DUMMY == TracePathPart::Index(0));
+    Ok(())
+}
