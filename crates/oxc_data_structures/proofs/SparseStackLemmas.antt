@@ -1,9 +1,9 @@
 -- How the parts of a `SparseStack` follow its entries.
-use Rattle.std.proofs.Common.{◌≡◌, ℕ, zero, suc, ◌+◌, ◌-◌, ◌<◌, ◌≤◌, Bool, true, false, cond, List, [], ◌∷◌, ◌++◌, length, get_or, set, take, drop, map, Option, Some, None, refl, sym, ap, ◌∙◌, subst, arith}
-use Rattle.std.proofs.lemmas.List.{length-append, length-map, length-set, map-append, same_from_push, get_or_at, set_at, nil_from_length, append-nil, get_or_read, get_or-set_same, set-get_or, set-set}
+use Rattle.std.proofs.Common.{◌≡◌, ℕ, suc, ◌-◌, ◌<◌, Bool, true, false, cond, List, [], ◌∷◌, ◌++◌, length, get_or, set, map, Option, Some, None, refl, sym, ap, ◌∙◌, arith}
+use Rattle.std.proofs.lemmas.List.{length-append, length-map, length-set, map-append, same_from_push, append-nil, get_or_read, get_or-set_same, set-get_or, set-set}
 use Rattle.std.proofs.lemmas.List.Elements.{filter_map-append}
 use Rattle.std.proofs.lemmas.Option.{slice_get_read}
-use Rattle.std.specs.Prelude.{slice_get, is_some, IsSome}
+use Rattle.std.specs.Prelude.{slice_get, is_some}
 use Rattle.std.specs.Option.{option_to_list}
 use Rattle.oxc_data_structures.proofs.ListLemmas.{get_or-at_last, get_or-last, slice_get-last, set-last, split_last}
 use Rattle.oxc_data_structures.specs.SparseStack.{Entries, FillsTop, IsStored, entries_of, filled_values, top, with_top}

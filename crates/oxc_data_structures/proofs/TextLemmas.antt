@@ -1,6 +1,6 @@
 -- What a text's characters are when it is read from the back.
-use Rattle.std.proofs.Common.{◌≡◌, ℕ, zero, suc, ◌+◌, ◌-◌, ◌*◌, ◌/◌, ◌%◌, ◌<◌, ◌≤◌, Bool, true, false, cond, nat_lt, ◌⊎◌, inl, inr, List, [], ◌∷◌, ◌++◌, length, get_or, take, drop, reverse, Option, Some, None, refl, sym, ap, ◌∙◌, subst, arith}
-use Rattle.std.proofs.lemmas.List.{append-nil, append_assoc, take_at, drop_at, length-append, reverse-append, reverse-reverse, nil_from_length, get_or-append-add}
+use Rattle.std.proofs.Common.{◌≡◌, ℕ, ◌+◌, ◌/◌, ◌<◌, ◌≤◌, Bool, true, false, cond, nat_lt, ◌⊎◌, inl, inr, List, [], ◌∷◌, ◌++◌, length, get_or, take, drop, reverse, Option, Some, None, refl, sym, ap, ◌∙◌, subst, arith}
+use Rattle.std.proofs.lemmas.List.{append-nil, take_at, drop_at, length-append, reverse-append, nil_from_length, get_or-append-add}
 use Rattle.std.proofs.lemmas.Option.{slice_get_past}
 use Rattle.std.proofs.lemmas.Str.{chars-encodes, chars-append, cons_from_encodes, chars-nil, length-le-encodes, IsUtf8-take, IsUtf8-drop}
 use Rattle.std.specs.Prelude.{slice_get}
@@ -10,7 +10,7 @@ use Rattle.std.specs.Str.Iter.{chars_rest, chars_steps_back}
 use Rattle.std.specs.declared.str.Chars.{Chars}
 use Rattle.oxc_data_structures.proofs.ListLemmas.{slice_get-append_seam}
 use borrow.Author.Tests.{ltb-true}
-use lib.Utf8.{encode, encodes, scalars, next}
+use lib.Utf8.{encode, next}
 
 lead_of : (x y z : Bool) (c a b d : ℕ) (s t u : List ℕ) → (x ≡ true → c < 128)
     → (get_or (cond x (c ∷ []) (cond y ((192 + a) ∷ s) (cond z ((224 + b) ∷ t) ((240 + d) ∷ u)))) 0 0 < 128)

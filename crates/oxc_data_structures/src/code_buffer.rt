@@ -38,6 +38,13 @@ impl IndentChar {
     }
 }
 
+/// The law that `==` holds exactly between indent characters that are the same, and that a tab is the
+/// default.
+pub fn indent_chars_are_equal_exactly(a: IndentChar, b: IndentChar)
+    ensures equal { IsTrue (⟦<IndentChar as PartialEq>⟧.eq a b) ↔ (a ≡ b) }
+    ensures tab_by_default { ⟦<IndentChar as Default>⟧.is_default a → a ≡ Tab }
+{}
+
 /// Text that grows at its end: bytes that are UTF-8, with an indent character and an indent width.
 ///
 /// A print that is refused for want of memory leaves the buffer as it was.

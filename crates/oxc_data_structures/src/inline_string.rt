@@ -321,28 +321,3 @@ impl<const CAPACITY: usize, Len: UnsignedInt> fmt::Display for InlineString<CAPA
         f.write_str(self.as_str())
     }
 }
-
-#[cfg(test)]
-mod tests {
-    use super::*;
-    use std::test::Fail;
-
-    #[test]
-    fn texts_at_two_lengths(rt: HostRuntime) -> Result<(), Fail> {
-        let mut short = InlineString::<3, u8>::new();
-        assert!(rt; short.is_empty());
-        short.push(b'a');
-        short.push(b'b');
-        assert_eq!(rt; short.len(), 2);
-        assert_eq!(rt; short.len_usize(), 2);
-        short.set_ascii(0, b'c');
-        let copy = short;
-        assert_eq!(rt; copy.as_str(), "cb");
-        assert_eq!(rt; format!(in rt.alloc(); "{short}|")?.as_str(), "cb|");
-
-        let long = InlineString::<4, usize>::from_str("let");
-        assert_eq!(rt; long.as_str(), "let");
-        assert_eq!(rt; long.len(), 3);
-        Ok(())
-    }
-}

@@ -5,5 +5,8 @@ pub mod branch_hints;
 pub mod code_buffer;
 pub mod inline_string;
 pub mod rope;
+pub mod slice_iter;
 pub mod stack;
 pub mod str;
+#[cfg(test)]
+mod tests;

@@ -1,5 +1,3 @@
-use Rattle.std.proofs.Common.{subst, sym}
-use Rattle.std.specs.Str.{IsUtf8}
 use Rattle.oxc_data_structures.proofs.TextLemmas.{nth_char_back}
 use Rattle.oxc_data_structures.proofs.code_buffer.CodeBuffer.peek_nth_char_back.Goals as goal
 

@@ -1,4 +1,4 @@
-use Rattle.std.proofs.Common.{◌≡◌, sym, ◌∙◌, [], refl}
+use Rattle.std.proofs.Common.{sym, ◌∙◌, refl}
 use Rattle.oxc_data_structures.proofs.stack.non_empty.NonEmptyStack.try_collect.Goals as goal
 
 pub returns-in-Ok-try_from_vec-clause-items : goal.returns-in-Ok-try_from_vec-clause-items

@@ -1,4 +1,4 @@
-use Rattle.std.proofs.Common.{ap, sym, ◌∙◌}
+use Rattle.std.proofs.Common.{sym, ◌∙◌}
 use Rattle.std.specs.List.{length_refill}
 use Rattle.oxc_data_structures.proofs.SparseStackLemmas.{IsStored-values}
 use Rattle.oxc_data_structures.proofs.stack.sparse.SparseStack.as_mut_slice.Goals as goal

@@ -1,5 +1,4 @@
-use Rattle.std.proofs.Common.{refl, sym, ap, ◌∙◌, set, ◌-◌, length, None, arith}
-use Rattle.std.proofs.lemmas.List.{set-get_or}
+use Rattle.std.proofs.Common.{◌∙◌, arith}
 use Rattle.oxc_data_structures.proofs.SparseStackLemmas.{FillsTop-kept, filled_in, kept_top, mark_read}
 use Rattle.oxc_data_structures.proofs.stack.sparse.SparseStack.fill_last.Goals as goal
 

@@ -1,4 +1,4 @@
-use Rattle.std.proofs.Common.{refl, ap, ◌∙◌}
+use Rattle.std.proofs.Common.{refl, ◌∙◌}
 use Rattle.oxc_data_structures.proofs.SparseStackLemmas.{mark_read, top_entry}
 use Rattle.oxc_data_structures.proofs.stack.sparse.SparseStack.last.Goals as goal
 

@@ -1,4 +1,4 @@
-use Rattle.std.proofs.Common.{refl, sym, ap, ◌∙◌, ◌≡◌, ◌-◌, ◌<◌, length, Some, rules, arith}
+use Rattle.std.proofs.Common.{refl, ◌∙◌, ◌<◌, length, arith}
 use Rattle.std.proofs.lemmas.List.{length-set}
 use Rattle.oxc_data_structures.proofs.ListLemmas.{option_copied_mut-last}
 use Rattle.oxc_data_structures.proofs.SparseStackLemmas.{IsStored-values, mark_read, values_some, top_entry, top_replaced}

@@ -1,4 +1,4 @@
-use Rattle.std.proofs.Common.{◌<◌, length, Some, refl, sym, ap, ◌∙◌, arith}
+use Rattle.std.proofs.Common.{◌<◌, length, Some, refl, ap, ◌∙◌, arith}
 use Rattle.std.proofs.lemmas.List.{length-set}
 use Rattle.oxc_data_structures.proofs.SparseStackLemmas.{IsFilledTop-from_fills, IsStored-values, top_replaced, value_read, values_some, with_top-filled}
 use Rattle.oxc_data_structures.specs.SparseStack.{with_top}

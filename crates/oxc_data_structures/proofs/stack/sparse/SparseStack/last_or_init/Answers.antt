@@ -1,4 +1,4 @@
-use Rattle.std.proofs.Common.{◌<◌, length, refl, sym, ap, ◌∙◌, arith}
+use Rattle.std.proofs.Common.{◌<◌, length, refl, ap, ◌∙◌, arith}
 use Rattle.oxc_data_structures.proofs.SparseStackLemmas.{IsFilledTop-from_fills, value_read, values_some}
 use Rattle.oxc_data_structures.proofs.stack.sparse.SparseStack.last_or_init.Goals as goal
 

@@ -1,4 +1,4 @@
-use Rattle.std.proofs.Common.{◌≡◌, length, ap, sym, ◌∙◌, arith}
+use Rattle.std.proofs.Common.{ap, sym, ◌∙◌, arith}
 use Rattle.oxc_data_structures.proofs.SparseStackLemmas.{popped_filled, popped_absent}
 use Rattle.oxc_data_structures.proofs.stack.sparse.SparseStack.pop.Goals as goal
 

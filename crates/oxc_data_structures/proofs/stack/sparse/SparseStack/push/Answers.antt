@@ -1,4 +1,4 @@
-use Rattle.std.proofs.Common.{Some, None, sym, arith}
+use Rattle.std.proofs.Common.{Some, None, arith}
 use Rattle.std.proofs.lemmas.List.{append-nil}
 use Rattle.oxc_data_structures.proofs.SparseStackLemmas.{pushed}
 use Rattle.oxc_data_structures.proofs.stack.sparse.SparseStack.push.Goals as goal

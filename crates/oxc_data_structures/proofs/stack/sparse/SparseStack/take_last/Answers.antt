@@ -1,4 +1,4 @@
-use Rattle.std.proofs.Common.{refl, sym, ap, ◌∙◌, arith}
+use Rattle.std.proofs.Common.{refl, sym, ◌∙◌, arith}
 use Rattle.oxc_data_structures.proofs.SparseStackLemmas.{absent_stays, mark_read, taken, top_entry}
 use Rattle.oxc_data_structures.proofs.stack.sparse.SparseStack.take_last.Goals as goal
 
