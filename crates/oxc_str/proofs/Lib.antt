@@ -7,4 +7,5 @@ pub mod Seams
 pub mod Pushes
 pub mod Patterns
 pub mod Showing
+pub mod PointUnits
 pub mod Backwards

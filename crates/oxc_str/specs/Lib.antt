@@ -6,6 +6,7 @@ pub mod JSStr
 pub mod JSStrBuilder
 pub mod JSStrDisplay
 pub mod JSStrPattern
+pub mod Numbers
 pub mod Str
 pub mod Wtf8
 pub mod Wtf8Buffer

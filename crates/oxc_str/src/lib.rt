@@ -18,6 +18,7 @@ pub mod js_chars;
 pub mod js_str;
 pub mod js_str_builder;
 pub mod js_str_display;
+mod js_str_estree;
 pub mod js_str_pattern;
 pub mod js_text;
 pub mod laws;

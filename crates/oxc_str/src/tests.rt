@@ -56,6 +56,25 @@ fn a_str_is_written_as_a_json_string(rt: HostRuntime) -> Result<(), Fail> {
 }
 
 #[test]
+fn a_js_str_is_written_as_a_json_string(rt: HostRuntime) -> Result<(), Fail> {
+    let alloc: Global = rt.alloc();
+    let arena = Bump::new(alloc);
+    for (units, written) in [
+        ([0x61, 0xD800, 0x62].as_slice(), "\"a\\ud800b\""),
+        (&[0xD83D, 0xDE00, 0xDC00], "\"\u{1F600}\\udc00\""),
+        (&[0x61, 0x22], "\"a\\\"\""),
+    ] {
+        let mut serializer: ESTreeSerializer<ConfigFixes, CompactFormatter> = ESTreeSerializer::new(
+            alloc, false, false,
+        )?;
+        string_of(&arena, units)?.serialize(&mut serializer)?;
+        let text = serializer.into_string();
+        assert_eq!(rt; text.as_str(), written);
+    }
+    Ok(())
+}
+
+#[test]
 fn an_arena_without_room_refuses_copies(rt: HostRuntime) -> Result<(), Fail> {
     let arena = Bump::new(rt.alloc());
     arena.set_allocation_limit(Some(0));
