@@ -1,2 +1,4 @@
+pub mod Blocks
 pub mod Flags
+pub mod Lines
 pub mod Names

@@ -1,5 +1,5 @@
 -- Identifier names (ECMA-262, 12.7). A text is its bytes, a character its code point.
-use Rattle.std.specs.Prelude.{ℕ, ◌+◌, Bool, false, not, ◌||◌, ◌&&◌, ◌==◌, nat_lt, List, [], ◌∷◌, if◌then◌else◌}
+use Rattle.std.specs.Prelude.{◌≡◌, ℕ, ◌+◌, ◌≤◌, Bool, true, false, not, ◌||◌, ◌&&◌, ◌==◌, nat_lt, List, [], ◌∷◌, length, take, if◌then◌else◌}
 use Rattle.std.specs.Char.{is_ascii_alphabetic, is_ascii_digit}
 use Rattle.std.specs.List.{list_all}
 use Rattle.std.specs.Str.{chars}
@@ -33,6 +33,14 @@ is_taken patched c = not (patched && is_katakana_middle_dot c)
 
 abbrev pub is_taken_part : Bool → ℕ → Bool
 is_taken_part patched c = is_identifier_part c && is_taken patched c
+
+abbrev pub is_ascii_part : ℕ → Bool
+is_ascii_part c = nat_lt c 128 && is_identifier_part c
+
+-- the first n bytes are ASCII parts
+pub record BeginsWithParts (n : ℕ) (bytes : List ℕ) : Type 0 where
+  pub long_enough : n ≤ length bytes
+  pub parts : list_all is_ascii_part (take n bytes) ≡ true
 
 -- the entry of an ASCII character: 1 for a start, 2 for a part
 abbrev pub ascii_id_flags : ℕ → ℕ

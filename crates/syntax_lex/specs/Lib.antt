@@ -1,2 +1,13 @@
+pub mod AssignmentOperator
+pub mod BinaryOperator
+pub mod ESTarget
+pub mod Equality
 pub mod Identifier
 pub mod Keyword
+pub mod LineTerminator
+pub mod LogicalOperator
+pub mod Number
+pub mod Precedence
+pub mod UnaryOperator
+pub mod UpdateOperator
+pub mod WhiteSpace

@@ -2,7 +2,13 @@
 //! they bind, bases of numbers, and the editions of the language.
 #![tactic(auto)]
 
+pub mod es_target;
+mod estree;
 pub mod identifier;
 pub mod keyword;
+pub mod line_terminator;
+pub mod number;
+pub mod operator;
+pub mod precedence;
 #[cfg(test)]
 mod tests;

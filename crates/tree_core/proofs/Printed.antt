@@ -1,17 +1,17 @@
 -- What is left to print, from one field or item to the next.
-use Rattle.std.proofs.Common.{◌≡◌, ℕ, zero, suc, ◌+◌, ◌<◌, ◌≤◌, List, [], ◌∷◌, ◌++◌, Bool, Bor, true, false, not, ◌&&◌, ◌||◌, Option, Some, None, is_some, option_map, option_copied, if◌then◌else◌, map, drop, length, slice_get, refl, sym, ap, subst, ◌∙◌, ◌⊎◌, inl, inr, get_or, arith, true≢false, add-one, IfSome}
+use Rattle.std.proofs.Common.{◌≡◌, ℕ, zero, suc, ◌+◌, ◌<◌, ◌≤◌, List, [], ◌∷◌, ◌++◌, Bool, Bor, true, false, not, ◌&&◌, ◌||◌, Option, Some, None, is_some, option_map, if◌then◌else◌, map, drop, length, slice_get, refl, sym, ap, subst, ◌∙◌, ◌⊎◌, inl, inr, get_or, arith, true≢false, add-one, IfSome}
 use Rattle.std.specs.List.{list_all}
 use Rattle.std.proofs.lemmas.List.{drop_all}
 use Rattle.json_text.specs.Units.{units_of}
 use Rattle.json_text.proofs.Units.{units_of-text_of_units}
-use Rattle.oxc_estree.specs.Open.{Field, OpenStruct, add_element, add_field, add_fields, closed, new_struct, object_of, list_of}
-use Rattle.oxc_estree.specs.Out.{Meaning, Out, plain, wrote}
+use Rattle.oxc_estree.specs.Open.{Field, OpenStruct, add_element, add_field, add_fields, closed, new_struct, object_of}
+use Rattle.oxc_estree.specs.Out.{Out, wrote}
 use Rattle.oxc_estree.specs.Refused.{IsCutShort}
 use Rattle.oxc_estree.proofs.Growth.{Grows-add_fields, Grows-refl, cut_short_after}
 use Rattle.oxc_estree.proofs.ListUnderWay.{IsListUnderWay, element_refused, element_written}
 use Rattle.oxc_estree.proofs.StructUnderWay.{IsStructUnderWay, fields_refused, fields_written, struct_begins}
 use Rattle.tree_nodes.specs.Look.{are_items, item_at, onto, part_at, part_size, parts_len, past}
-use Rattle.tree_core.specs.Meanings.{are_paired, field, field_meanings, has_next, head_fields, inside, inside_list, is_always, is_left_out, item_meaning, item_meanings, node_meaning, object_key, pair_meaning, part_meaning, put_field, shared_field, shared_key, single_field, atom_meaning}
+use Rattle.tree_core.specs.Meanings.{are_paired, field, field_meanings, has_next, head_fields, inside, inside_list, is_always, is_left_out, item_meaning, item_meanings, node_meaning, object_key, part_meaning, put_field, shared_field, shared_key, single_field, atom_meaning}
 use Rattle.tree_nodes.specs.Rows.{column_of}
 use Rattle.tree_nodes.specs.Table.{Column, Row, row, word_list}
 use Rattle.tree_nodes.specs.Tree.{Atom, Parts, Tree, atom, child, done, empty, is_empty, many}

@@ -1,11 +1,11 @@
 -- What is printed field by field is the value of the tree, and what is marked in it are its literals
 -- that JSON can't hold.
-use Rattle.std.proofs.Common.{◌≡◌, ℕ, zero, suc, List, [], ◌∷◌, ◌++◌, Bool, true, false, not, ◌&&◌, ◌||◌, Option, Some, None, is_some, if◌then◌else◌, map, codes, refl, sym, ap, ◌∙◌, true≢false}
+use Rattle.std.proofs.Common.{◌≡◌, ℕ, suc, List, [], ◌∷◌, ◌++◌, Bool, true, false, not, ◌&&◌, ◌||◌, Some, is_some, if◌then◌else◌, map, codes, refl, sym, ap, ◌∙◌, true≢false}
 use Rattle.std.specs.List.{list_all}
-use Rattle.json_text.specs.Json.{Json, object, Members, no_members, member, Items, item}
+use Rattle.json_text.specs.Json.{Json, member}
 use Rattle.json_text.specs.Units.{units_of}
 use Rattle.json_text.proofs.Units.{units_of-text_of_units}
-use Rattle.oxc_estree.specs.Open.{Field, element_marks, field_marks, items_of, list_of, members_of, object_of}
+use Rattle.oxc_estree.specs.Open.{Field, element_marks, field_marks, items_of, members_of}
 use Rattle.oxc_estree.specs.Out.{Meaning, Part, key, index}
 use Rattle.tree_nodes.specs.Literals.{case_from, case_of, is_fixed, with_value}
 use Rattle.tree_nodes.specs.declared.literals.LiteralCase.TheVariants as case
@@ -18,11 +18,11 @@ use Rattle.tree_core.specs.Values as values
 use Rattle.tree_nodes.specs.declared.kind.Kind.{Kind}
 use Rattle.tree_nodes.specs.declared.kind.Kind.TheVariants.{Literal, Program}
 use Rattle.tree_nodes.specs.declared.table.Class.{Class as FieldClass}
-use Rattle.tree_nodes.specs.declared.table.Class.TheVariants.{LiteralValue, Pattern, Raw}
+use Rattle.tree_nodes.specs.declared.table.Class.TheVariants.{Pattern, Raw}
 use Rattle.tree_nodes.specs.declared.table.Mark.{Mark}
 use Rattle.tree_nodes.specs.declared.table.Mode.{Mode}
 use Rattle.tree_core.proofs.Ascii.{is_ascii, text_of_ascii}
-use Rattle.tree_nodes.proofs.Cases.{both, none_some, not_true}
+use Rattle.tree_nodes.proofs.Cases.{both, not_true}
 use Rattle.tree_core.proofs.Fits.{FitFields, FitItems, Fits}
 use Rattle.tree_core.proofs.Printed.{put_always, rows_are_paired}
 use Rattle.tree_core.proofs.ReadsBack.{tree_fits}

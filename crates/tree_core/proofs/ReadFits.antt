@@ -393,7 +393,7 @@ row_found (k ∷ ks) name r e = here (bytes_eq (row k).name name) e (row_found k
     here false f later = later f
 
 -- the row that is found for an object is that of its kind, which is supported
-row_of_object : (ms : Members) (r : Row) → row_for ms ≡ Some r → (is_supported r.kind ≡ true) × (row r.kind ≡ r)
+pub row_of_object : (ms : Members) (r : Row) → row_for ms ≡ Some r → (is_supported r.kind ≡ true) × (row r.kind ≡ r)
 row_of_object ms r e =
     let a = then_some supported_row (option_and_then text_in (find_member (codes "type") ms)) r e in
     let b = then_some (λ s. if is_supported s.kind then Some s else None) (row_named a.0) r a.2 in

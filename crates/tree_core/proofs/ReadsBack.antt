@@ -17,7 +17,7 @@ abbrev if_placed : Tree → Option Tree
 if_placed t = if is_placed t then Some t else None
 
 -- the shape that was read, which is the tree, and it stands where it may
-shape_read : (v : Json) (t : Tree) → tree_of v ≡ Some t → (shape_of v ≡ Some t) × (is_placed t ≡ true)
+pub shape_read : (v : Json) (t : Tree) → tree_of v ≡ Some t → (shape_of v ≡ Some t) × (is_placed t ≡ true)
 unfolding tree_of
 shape_read v t e =
     let a = then_some if_placed (shape_of v) t e in

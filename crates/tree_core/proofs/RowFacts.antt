@@ -1,14 +1,15 @@
 -- What the proofs take from the node table: a few facts, each by computing over its rows.
-use Rattle.std.specs.Prelude.{ℕ, List, [], ◌∷◌, Bool, true, false, not, ◌&&◌, ◌||◌, bytes_eq, codes, Some, if◌then◌else◌}
+use Rattle.std.specs.Prelude.{ℕ, zero, suc, List, [], ◌∷◌, get_or, Bool, true, false, not, ◌&&◌, ◌||◌, bytes_eq, codes, if◌then◌else◌}
 use Rattle.std.specs.List.{list_all}
-use Rattle.std.proofs.Common.{◌≡◌, refl}
+use Rattle.std.proofs.Common.{◌≡◌, refl, subst}
 use Rattle.json_text.specs.Units.{are_code_units}
 use Rattle.tree_core.specs.Reading.{is_listed}
+use Rattle.tree_nodes.specs.Kinds.{all_kinds, kind_number, kind_at-kind_number}
 use Rattle.tree_nodes.specs.Table.{Column, Row, row, word_list}
 use Rattle.tree_core.proofs.Ascii.{is_ascii}
 use Rattle.tree_nodes.proofs.Cases.{both, not_true}
 use Rattle.tree_nodes.specs.declared.kind.Kind.{Kind}
-use Rattle.tree_nodes.specs.declared.kind.Kind.TheVariants.{Program, Hashbang, ExpressionStatement, BlockStatement, EmptyStatement, DebuggerStatement, ThisExpression, Super, ReturnStatement, ThrowStatement, LabeledStatement, BreakStatement, ContinueStatement, IfStatement, SwitchStatement, SwitchCase, TryStatement, CatchClause, WhileStatement, DoWhileStatement, ForStatement, ForInStatement, ForOfStatement, WithStatement, VariableDeclaration, VariableDeclarator, FunctionDeclaration, FunctionExpression, ArrowFunctionExpression, ClassDeclaration, ClassExpression, ClassBody, MethodDefinition, PropertyDefinition, StaticBlock, ArrayExpression, ObjectExpression, Property, SpreadElement, RestElement, UnaryExpression, UpdateExpression, BinaryExpression, LogicalExpression, AssignmentExpression, ConditionalExpression, CallExpression, NewExpression, MemberExpression, ChainExpression, SequenceExpression, YieldExpression, AwaitExpression, ImportExpression, MetaProperty, TemplateLiteral, TaggedTemplateExpression, TemplateElement, ObjectPattern, ArrayPattern, AssignmentPattern, Identifier, PrivateIdentifier, Literal, ImportDeclaration, ImportSpecifier, ImportDefaultSpecifier, ImportNamespaceSpecifier, ImportAttribute, ExportNamedDeclaration, ExportSpecifier, ExportDefaultDeclaration, ExportAllDeclaration}
+use Rattle.tree_nodes.specs.declared.kind.Kind.TheVariants.{Program}
 use Rattle.tree_nodes.specs.declared.table.Class.{Class as FieldClass}
 use Rattle.tree_nodes.specs.declared.table.Class.TheVariants.{Cooked, Flags, Pattern, Raw, TextOr}
 use Rattle.tree_nodes.specs.declared.table.Words.{Words}
@@ -74,80 +75,20 @@ is_sound_row r =
     is_ascii r.name && (not (is_listed (codes "type") r.columns) && (not (is_listed (codes "start") r.columns)
     && (not (is_listed (codes "end") r.columns) && (are_followed r.columns && are_ordered r.columns))))
 
-sound_row : (k : Kind) → is_sound_row (row k) ≡ true
-sound_row Program = refl
-sound_row Hashbang = refl
-sound_row ExpressionStatement = refl
-sound_row BlockStatement = refl
-sound_row EmptyStatement = refl
-sound_row DebuggerStatement = refl
-sound_row ThisExpression = refl
-sound_row Super = refl
-sound_row ReturnStatement = refl
-sound_row ThrowStatement = refl
-sound_row LabeledStatement = refl
-sound_row BreakStatement = refl
-sound_row ContinueStatement = refl
-sound_row IfStatement = refl
-sound_row SwitchStatement = refl
-sound_row SwitchCase = refl
-sound_row TryStatement = refl
-sound_row CatchClause = refl
-sound_row WhileStatement = refl
-sound_row DoWhileStatement = refl
-sound_row ForStatement = refl
-sound_row ForInStatement = refl
-sound_row ForOfStatement = refl
-sound_row WithStatement = refl
-sound_row VariableDeclaration = refl
-sound_row VariableDeclarator = refl
-sound_row FunctionDeclaration = refl
-sound_row FunctionExpression = refl
-sound_row ArrowFunctionExpression = refl
-sound_row ClassDeclaration = refl
-sound_row ClassExpression = refl
-sound_row ClassBody = refl
-sound_row MethodDefinition = refl
-sound_row PropertyDefinition = refl
-sound_row StaticBlock = refl
-sound_row ArrayExpression = refl
-sound_row ObjectExpression = refl
-sound_row Property = refl
-sound_row SpreadElement = refl
-sound_row RestElement = refl
-sound_row UnaryExpression = refl
-sound_row UpdateExpression = refl
-sound_row BinaryExpression = refl
-sound_row LogicalExpression = refl
-sound_row AssignmentExpression = refl
-sound_row ConditionalExpression = refl
-sound_row CallExpression = refl
-sound_row NewExpression = refl
-sound_row MemberExpression = refl
-sound_row ChainExpression = refl
-sound_row SequenceExpression = refl
-sound_row YieldExpression = refl
-sound_row AwaitExpression = refl
-sound_row ImportExpression = refl
-sound_row MetaProperty = refl
-sound_row TemplateLiteral = refl
-sound_row TaggedTemplateExpression = refl
-sound_row TemplateElement = refl
-sound_row ObjectPattern = refl
-sound_row ArrayPattern = refl
-sound_row AssignmentPattern = refl
-sound_row Identifier = refl
-sound_row PrivateIdentifier = refl
-sound_row Literal = refl
-sound_row ImportDeclaration = refl
-sound_row ImportSpecifier = refl
-sound_row ImportDefaultSpecifier = refl
-sound_row ImportNamespaceSpecifier = refl
-sound_row ImportAttribute = refl
-sound_row ExportNamedDeclaration = refl
-sound_row ExportSpecifier = refl
-sound_row ExportDefaultDeclaration = refl
-sound_row ExportAllDeclaration = refl
+-- a fact of all rows, found by computing, is one of the row of each kind
+all_at : (test : Kind → Bool) (ks : List Kind) (k : Kind) (i : ℕ) → list_all test ks ≡ true → test k ≡ true → test (get_or ks i k) ≡ true
+all_at test [] k i all own = own
+all_at test (l ∷ ks) k zero all own = (both (test l) (list_all test ks) all).0
+all_at test (l ∷ ks) k (suc i) all own = all_at test ks k i (both (test l) (list_all test ks) all).1 own
+
+pub of_each : (test : Kind → Bool) → list_all test all_kinds ≡ true → test Program ≡ true → (k : Kind) → test k ≡ true
+of_each test all own k = subst (λ l. test l ≡ true) (kind_at-kind_number k) (all_at test all_kinds Program (kind_number k) all own)
+
+abbrev is_sound : Kind → Bool
+is_sound k = is_sound_row (row k)
+
+sound_rows : list_all is_sound all_kinds ≡ true
+sound_rows = refl
 
 pub record IsSoundRow (r : Row) : Type 0 where
   pub ascii : is_ascii r.name ≡ true
@@ -160,7 +101,7 @@ pub record IsSoundRow (r : Row) : Type 0 where
 pub row_sound : (k : Kind) → IsSoundRow (row k)
 row_sound k =
     let r = row k in
-    let a = both (is_ascii r.name) _ (sound_row k) in
+    let a = both (is_ascii r.name) _ (of_each is_sound sound_rows refl k) in
     let b = both (not (is_listed (codes "type") r.columns)) _ a.1 in
     let c = both (not (is_listed (codes "start") r.columns)) _ b.1 in
     let d = both (not (is_listed (codes "end") r.columns)) _ c.1 in

@@ -7,4 +7,5 @@ pub mod Limits
 pub mod Readable
 pub mod ReadError
 pub mod Laws
+pub mod NodeCount
 pub mod Program

@@ -1,14 +1,15 @@
 -- The trees that are programs, and what their source is.
-use Rattle.std.specs.Prelude.{◌≡◌, ℕ, zero, suc, Some}
+use Rattle.std.specs.Prelude.{◌≡◌, ℕ, zero, suc, ◌<◌, ◌^◌, Some}
 use Rattle.tree_core.specs.declared.program.SourceType.{SourceType}
 use Rattle.tree_core.specs.declared.program.SourceType.TheVariants.{Script, Module, CommonJs}
+use Rattle.tree_core.specs.NodeCount.{node_count}
 use Rattle.tree_core.specs.Reading.{tree_of}
 use Rattle.tree_nodes.specs.Tree.{Tree, part, word_of}
 use Rattle.tree_core.specs.Values.{value_of}
 
--- a tree that its own value is, and so one that some value is
+-- a tree that its own value is, and so one that some value is, of fewer than 2^30 nodes
 abbrev pub IsProgram : Tree → Type 0
-IsProgram t = tree_of (value_of t) ≡ Some t
+IsProgram t = (tree_of (value_of t) ≡ Some t) × (node_count t < 2 ^ 30)
 
 -- the source type that is the n-th word
 abbrev pub source_type_at : ℕ → SourceType

@@ -29,7 +29,7 @@ impl SourceType {
     }
 }
 
-/// A tree that is a program, with each node where it may stand.
+/// A tree that is a program, of fewer than 2^30 nodes, with each node where it may stand.
 #[derive(Drop)]
 pub struct Program {
     root: Node,
@@ -53,6 +53,7 @@ impl Model for Program {
 impl Program {
     ghost use Rattle.tree_core.specs.Program.{IsProgram, source_type_of};
 
+    /// The program of this root.
     pub fn from_root(root: Node) -> Program
         requires { IsProgram root }
         ensures { result ≡ root }
@@ -60,6 +61,7 @@ impl Program {
         Program { root }
     }
 
+    /// The node of kind `Program`, in which all others lie.
     pub fn root(&self) -> &Node
         ensures root { result.now ≡ self.now }
         ensures program { IsProgram self.now }
@@ -67,6 +69,7 @@ impl Program {
         &self.root
     }
 
+    /// What its source is.
     pub fn source_type(&self) -> SourceType
         ensures { result ≡ source_type_of self.now }
     {

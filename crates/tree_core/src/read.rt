@@ -1,12 +1,13 @@
 //! The reader: the tree that a JSON value is.
 
-ghost use Rattle.std.specs.Prelude.{◌≡◌, List, [], ◌∷◌, ◌++◌, Some, None, true, IsTrue, map, option_map, option_and_then, ◌↔◌, length, ◌≤◌, OnOk, IfOk, IfErr, IfSome};
+ghost use Rattle.std.specs.Prelude.{◌≡◌, List, [], ◌∷◌, ◌++◌, Some, None, true, IsTrue, map, option_map, option_and_then, ◌↔◌, length, ◌≤◌, ◌<◌, ◌+◌, ◌^◌, OnOk, IfOk, IfErr, IfSome};
 ghost use Rattle.serde_json.specs.Data.{depth, members_depth};
 ghost use Rattle.serde_json.specs.View.{view, items_view, members_view};
 ghost use Rattle.json_text.specs.Units.{units_of};
 ghost use Rattle.tree_core.specs.JsonOf.{json_of};
 ghost use Rattle.tree_core.specs.JsonOf as json;
 ghost use Rattle.tree_core.specs.Limits.{is_too_large};
+ghost use Rattle.tree_core.specs.NodeCount.{node_count};
 ghost use Rattle.tree_core.specs.Readable.{is_ascii, is_readable, are_readable, field_from, fields_in, item_from};
 ghost use Rattle.tree_core.specs.ReadError.{Says};
 ghost use Rattle.tree_core.specs.Reading as reading;
@@ -72,9 +73,10 @@ impl<T: Drop> From<AllocFailed<T>> for ReadError {
 /// `TooLarge` comes exactly where the objects of the value and `more`, a number of names that are
 /// counted with them, reach 2^30, an array has 2^30 items or more, or a string or a key has more
 /// than 4,294,967,295 bytes. `BadTree` comes only where, within these limits, the value is no
-/// such tree.
+/// such tree. The nodes of a program that was read and `more` are together fewer than 2^30.
 pub fn read_tree(alloc: Global, value: &Value, more: usize) -> Result<Program, ReadError>
     ensures ok { IfOk result (λ p. tree_of (json_of (view value.now)) ≡ Some p) }
+    ensures few { IfOk result (λ p. node_count p + more < 2 ^ 30) }
     ensures too_large { (result ≡ Err ReadError.TooLarge)
         ↔ IsTrue (is_too_large (view value.now) more) }
     ensures bad_tree { result ≡ Err ReadError.BadTree → tree_of (json_of (view value.now)) ≡ None }

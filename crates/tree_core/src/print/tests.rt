@@ -23,15 +23,15 @@ impl ESTree for Alone {
 }
 
 fn printed(alloc: Global, node: Node) -> Result<String, AllocError> {
-    let serializer = ESTreeSerializer::<ConfigFixes, CompactFormatter>::new(
-        alloc, false, false,
-    )?;
+    let serializer = ESTreeSerializer::<ConfigFixes, CompactFormatter>::new(alloc, false, false)?;
     serializer.serialize_with_fixes(&Alone { node })
 }
 
 // The whole output, of a node's text after its `start` and `end` and of its fix paths.
 fn output(alloc: Global, kind: &str, rest: &str, fixes: &str) -> Result<String, AllocError> {
-    format!(in alloc; "{{\"node\":\n{{\"type\":\"{kind}\",\"start\":3,\"end\":5{rest}}}\n,\"fixes\":{fixes}}}")
+    format!(in alloc;
+        "{{\"node\":\n{{\"type\":\"{kind}\",\"start\":3,\"end\":5{rest}}}\n,\"fixes\":{fixes}}}"
+    )
 }
 
 fn node(kind: Kind, fields: Vec<Field>) -> Node {
@@ -73,7 +73,10 @@ fn literal(
     let pattern = text_or(alloc, regex.0)?;
     let flags = text_or(alloc, regex.1)?;
     let bigint = text_or(alloc, bigint)?;
-    Ok(node(Kind::Literal, vec![in alloc; value, raw, pattern, flags, bigint]?))
+    Ok(node(
+        Kind::Literal,
+        vec![in alloc; value, raw, pattern, flags, bigint]?,
+    ))
 }
 
 fn big_int(alloc: Global) -> Result<Node, AllocError> {
@@ -92,7 +95,14 @@ fn literals_are_printed(rt: HostRuntime) -> Result<(), Fail> {
             ",\"value\":18446744073709551615,\"raw\":\"0xffffffffffffffff\"",
             "[]",
         ),
-        (Field::Flag(true), None, (None, None), None, ",\"value\":true,\"raw\":null", "[]"),
+        (
+            Field::Flag(true),
+            None,
+            (None, None),
+            None,
+            ",\"value\":true,\"raw\":null",
+            "[]",
+        ),
         (
             text(alloc, "\u{e9}\"")?,
             Some("'\u{e9}\"'"),
@@ -101,8 +111,22 @@ fn literals_are_printed(rt: HostRuntime) -> Result<(), Fail> {
             ",\"value\":\"\u{e9}\\\"\",\"raw\":\"'\u{e9}\\\"'\"",
             "[]",
         ),
-        (Field::Empty, Some("null"), (None, None), None, ",\"value\":null,\"raw\":\"null\"", "[]"),
-        (Field::Empty, Some("1.5"), (None, None), None, ",\"value\":null,\"raw\":\"1.5\"", "[]"),
+        (
+            Field::Empty,
+            Some("null"),
+            (None, None),
+            None,
+            ",\"value\":null,\"raw\":\"null\"",
+            "[]",
+        ),
+        (
+            Field::Empty,
+            Some("1.5"),
+            (None, None),
+            None,
+            ",\"value\":null,\"raw\":\"1.5\"",
+            "[]",
+        ),
         (
             Field::Empty,
             Some("/a/g"),
@@ -132,13 +156,19 @@ fn literals_are_printed(rt: HostRuntime) -> Result<(), Fail> {
 fn template(alloc: Global, cooked: Option<&str>) -> Result<Node, AllocError> {
     let raw = text(alloc, "\\x")?;
     let cooked = text_or(alloc, cooked)?;
-    Ok(node(Kind::TemplateElement, vec![in alloc; raw, cooked, Field::Flag(true)]?))
+    Ok(node(
+        Kind::TemplateElement,
+        vec![in alloc; raw, cooked, Field::Flag(true)]?,
+    ))
 }
 
 fn statement(alloc: Global, directive: Option<&str>) -> Result<Node, AllocError> {
     let expression = child(alloc, name(alloc, "a")?)?;
     let directive = text_or(alloc, directive)?;
-    Ok(node(Kind::ExpressionStatement, vec![in alloc; expression, directive]?))
+    Ok(node(
+        Kind::ExpressionStatement,
+        vec![in alloc; expression, directive]?,
+    ))
 }
 
 fn negation(alloc: Global) -> Result<Node, AllocError> {
@@ -229,9 +259,14 @@ fn marks_lead_to_the_literals(rt: HostRuntime) -> Result<(), Fail> {
     let argument = child(alloc, array(alloc)?)?;
     let node = node(Kind::ReturnStatement, vec![in alloc; argument]?);
     let text = printed(alloc, node)?;
-    assert!(rt; text.as_str().ends_with(
-        ",\"fixes\":[[\"argument\",\"elements\",1],[\"argument\",\"elements\",3]]}"
-    ));
-    assert!(rt; text.as_str().contains("\"elements\":[null,{\"type\":\"Literal\""));
+    assert!(rt;
+        text.as_str().ends_with(
+            ",\"fixes\":[[\"argument\",\"elements\",1],[\"argument\",\"elements\",3]]}"
+        )
+    );
+    assert!(rt;
+        text.as_str()
+            .contains("\"elements\":[null,{\"type\":\"Literal\"")
+    );
     Ok(())
 }

@@ -1,21 +1,20 @@
-use Rattle.std.proofs.Common.{sym, ◌∙◌}
-use Rattle.std.proofs.StrCases.{chars_of_empty}
-use Rattle.std.proofs.lemmas.Str.{IsUtf8-past_char, chars_past_char}
+use Rattle.std.proofs.Common.{◌∙◌, ap}
+use Rattle.std.specs.List.{list_all}
+use Rattle.std.specs.Str.{chars}
+use Rattle.syntax_lex.specs.Identifier.{is_taken_part}
+use Rattle.syntax_lex.proofs.Blocks.{parts_cut, taken_parts}
 use Rattle.syntax_lex.proofs.identifier.are_taken_parts.Goals as goal
 
-pub returns-then-not-is_taken_part : goal.returns-then-not-is_taken_part
-returns-then-not-is_taken_part c =
-    let held = c.loop-c.invariant in
-    let step = chars_past_char _ _ c.in-Some.c held.0 c.in-Some.ensures.steps.0 in
-    let fails = sym c.is_taken_part.ensures ∙ c.if-not-is_taken_part.true in
-    rw (step, fails) at held.1
-
-pub loop-c-preserved : goal.loop-c-preserved
-loop-c-preserved c =
-    let held = c.loop-c.invariant in
-    let parts = c.in-Some.ensures.steps.0 in
-    let passes = sym c.is_taken_part.ensures ∙ c.if-not-is_taken_part.false in
-    (IsUtf8-past_char _ _ c.in-Some.c held.0 parts, rw (chars_past_char _ _ c.in-Some.c held.0 parts, passes) at held.1)
+pub range_from-requires : goal.range_from-requires
+range_from-requires c some =
+    let n = c.ascii_parts_len-len.result in
+    let bytes = c.as_bytes.ensures.value in
+    parts_cut c.args.text.now n c.utf8.text (rw bytes at c.ascii_parts_len-len.ensures.within)
+    (rw bytes at c.ascii_parts_len-len.ensures.parts)
 
 pub returns : goal.returns
-returns c = rw (chars_of_empty _ c.in-None.ensures.steps.0.0) at c.loop-c.invariant.1
+returns c =
+    c.are_taken_characters.ensures
+    ∙ ap (λ text. list_all (is_taken_part c.args.patched) (chars text)) c.range_from.ensures.value
+    ∙ taken_parts c.args.patched c.args.text.now c.ascii_parts_len-len.result
+    (rw c.as_bytes.ensures.value at c.ascii_parts_len-len.ensures.parts)

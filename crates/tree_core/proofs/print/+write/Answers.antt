@@ -1,4 +1,4 @@
-use Rattle.std.proofs.Common.{◌≡◌, ℕ, ◌<◌, ◌≤◌, ◌==◌, ◌∙◌, ◌⊎◌, List, [], ◌∷◌, Bool, None, ap, arith, false, get_or, inl, inr, length, map, option_map, rules, sym, true}
+use Rattle.std.proofs.Common.{◌≡◌, ℕ, ◌<◌, ◌≤◌, ◌==◌, ◌∙◌, ◌⊎◌, List, [], ◌∷◌, None, ap, arith, false, get_or, inl, inr, length, map, option_map, rules, sym, true}
 use Rattle.std.proofs.lemmas.List.{drop_more}
 use Rattle.std.proofs.lemmas.Result.{on_err_weaker, on_ok_weaker}
 use Rattle.json_text.specs.Json.{string}

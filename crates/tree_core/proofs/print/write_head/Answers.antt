@@ -1,8 +1,8 @@
-use Rattle.std.proofs.Common.{◌≡◌, false, true, List, [], ◌∷◌, codes, pos, ap, ◌∙◌}
+use Rattle.std.proofs.Common.{◌≡◌, false, true, [], ◌∷◌, codes, pos, ap, ◌∙◌}
 use Rattle.std.proofs.lemmas.Result.{on_err_weaker}
 use Rattle.json_text.specs.Json.{string, whole}
 use Rattle.json_text.specs.Units.{units_of}
-use Rattle.oxc_estree.specs.Open.{Field, add_field, add_fields, new_struct}
+use Rattle.oxc_estree.specs.Open.{add_field, add_fields, new_struct}
 use Rattle.oxc_estree.specs.Out.{Out, plain}
 use Rattle.tree_core.specs.Meanings.{field, inside}
 use Rattle.tree_core.proofs.Printed.{refused_after_fields}

@@ -12,7 +12,7 @@ returns g c =
     let old = g.S.Serializer.out c.args.serializer.now in
     let new = g.S.Serializer.out c.write_node.new.serializer in
     let same : node_meaning c.root.result.now ≡ meaning_of c.args.self.now =
-    ap node_meaning c.root.ensures.root ∙ printed_meaning c.args.self.now c.root.ensures.program in
+    ap node_meaning c.root.ensures.root ∙ printed_meaning c.args.self.now c.root.ensures.program.0 in
     record {
       ok = on_ok_weaker c.write_node.result (λ e. e ∙ ap (wrote old) same) c.write_node.ensures.ok;
       refused = on_err_weaker c.write_node.result (subst (λ (m : Meaning). IsCutShort old new (wrote old m)) same) c.write_node.ensures.refused;
