@@ -7,10 +7,11 @@ use Rattle.std.proofs.lemmas.List.{length-append, length-map, length-reverse}
 use Rattle.syntax_lex.specs.Keyword.{is_reserved_keyword, reserved_keywords}
 use Rattle.oxc_mangler.proofs.Counting.{no_more}
 use Rattle.oxc_mangler.proofs.Fewest.{count-length}
-use Rattle.oxc_mangler.proofs.Given.{from-map, in-filter, in-left, in-map, in-right, one_of, tells}
+use Rattle.oxc_mangler.proofs.Given.{from-map, in-filter, in-left, in-map, in-right, members-at, one_of, tells}
+use Rattle.oxc_mangler.proofs.Mangling.{from-leading}
 use Rattle.oxc_mangler.proofs.Order.{slots_are_fewest}
 use Rattle.oxc_mangler.proofs.Passing.{among-in}
-use Rattle.oxc_mangler.proofs.Rivals.{Led, greatest-most, group-source, groups-differ, in-distinct, led, members-at}
+use Rattle.oxc_mangler.proofs.Rivals.{Led, greatest-most, groups-differ, in-distinct, led}
 use Rattle.oxc_mangler.proofs.Runs.{of-each}
 use Rattle.oxc_mangler.proofs.SlotNamed.{map-apart, slots-named}
 use Rattle.oxc_mangler.proofs.Untaken.{candidate_one, free-different, free-length, passed, passed-different, passed-taken}
@@ -200,7 +201,7 @@ groups-most o t =
     (map-apart (λ (g : Group). g.leader) gs (groups-differ o t) one)
     (λ n i.
     let g : (g : Group) × In g gs × (g.leader ≡ n) = from-map (λ (g : Group). g.leader) gs n i in
-    let m : (m : Member) × In m (members o t) × (leads m ≡ true) × (group_led_by m ≡ g.0) = group-source _ (members o t) g.0 g.1 in
+    let m : (m : Member) × In m (members o t) × (leads m ≡ true) × (group_led_by m ≡ g.0) = from-leading _ (members o t) g.0 g.1 in
     subst (λ (k : ℕ). In k (map (λ (m : Member). node m.place) ls)) (ap (λ (x : Group). x.leader) m.3 ∙ g.2)
     (in-map (λ (m : Member). node m.place) ls m.0 (in-filter leads (members o t) m.0 m.1 m.2))) in
     let a : length (map (λ (g : Group). g.leader) gs) ≡ length gs = length-map gs (λ (g : Group). g.leader) in

@@ -161,7 +161,7 @@ with-map ps f [] = refl
 with-map ps f (q ∷ qs) = ap (λ xs. cond q.site.private (new_private_name ps q) (f q) ∷ xs) (with-map ps f qs)
 
 -- a group is led by a member that leads
-from-leading : (ss : List Scope) (ms : List Member) (g : Group) → In g (groups ss ms) → (m : Member) × In m ms × (leads m ≡ true) × (group_led_by m ≡ g)
+pub from-leading : (ss : List Scope) (ms : List Member) (g : Group) → In g (groups ss ms) → (m : Member) × In m ms × (leads m ≡ true) × (group_led_by m ≡ g)
 unfolding all_open
 from-leading [] ms g i = absurd i
 from-leading (s ∷ ss) ms g i = go (from-append (map group_led_by (filter (λ m. same_scope (home m.place.site) s) (filter leads ms))) (groups ss ms) g i) (from-leading ss ms g)

@@ -94,21 +94,21 @@ unfolding all_open
 PairsOf-reverse R [] p = tt
 PairsOf-reverse R (x ∷ xs) p = rw (reverse_onto xs x []) (PairsOf-push R (reverse xs) x (PairsOf-reverse R xs p.1) (AllOf-reverse (λ y. R y x) xs p.0))
 
-pub AllOf-append : {X : Type 0} (P : X → Type 0) (xs ys : List X) → AllOf P xs → AllOf P ys → AllOf P (xs ++ ys)
+AllOf-append : {X : Type 0} (P : X → Type 0) (xs ys : List X) → AllOf P xs → AllOf P ys → AllOf P (xs ++ ys)
 unfolding all_open
 AllOf-append P [] ys a b = b
 AllOf-append P (x ∷ xs) ys a b = (a.0, AllOf-append P xs ys a.1 b)
 
-pub PairsOf-append : {X : Type 0} (R : X → X → Type 0) (xs ys : List X) → PairsOf R xs → PairsOf R ys → AllOf (λ x. AllOf (R x) ys) xs → PairsOf R (xs ++ ys)
+PairsOf-append : {X : Type 0} (R : X → X → Type 0) (xs ys : List X) → PairsOf R xs → PairsOf R ys → AllOf (λ x. AllOf (R x) ys) xs → PairsOf R (xs ++ ys)
 unfolding all_open
 PairsOf-append R [] ys p q a = q
 PairsOf-append R (x ∷ xs) ys p q a = (AllOf-append (R x) xs ys p.0 a.0, PairsOf-append R xs ys p.1 q a.1)
 
 -- the groups whose home is s
-abbrev pub at_scope : List Member → Scope → List Group
+abbrev at_scope : List Member → Scope → List Group
 at_scope leaders s = map (λ m. record { leader = node m.place; home = home m.place.site }) (filter (λ m. same_scope (home m.place.site) s) leaders)
 
-pub homes : (leaders : List Member) (s : Scope) → AllOf (λ (g : Group). g.home ≡ s) (at_scope leaders s)
+homes : (leaders : List Member) (s : Scope) → AllOf (λ (g : Group). g.home ≡ s) (at_scope leaders s)
 unfolding all_open
 homes [] s = tt
 homes (m ∷ ms) s = go (same_scope (home m.place.site) s) refl (homes ms s)

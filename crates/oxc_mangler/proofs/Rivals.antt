@@ -1,15 +1,19 @@
 -- No rival uses fewer names: groups that are live in one scope have different names in it.
-use Rattle.std.specs.Prelude.{◌≡◌, ◌⊎◌, ◌≤◌, ℕ, suc, Bool, true, false, cond, not, ◌||◌, ◌&&◌, List, [], ◌∷◌, length, map, filter, find, nat_eq, Option, Some, None, is_none, is_some}
-use Rattle.std.specs.List.{list_any, flat_map}
+use Rattle.std.specs.Prelude.{◌≡◌, ◌⊎◌, ◌≤◌, ℕ, Bool, true, false, cond, not, ◌||◌, ◌&&◌, List, [], ◌∷◌, length, map, filter, find, nat_eq, Option, Some, None, is_none, is_some}
+use Rattle.std.specs.List.{list_any}
 use Rattle.std.proofs.Common.{refl, sym, ap, ◌∙◌, subst, arith, inl, inr}
 use Rattle.std.proofs.lemmas.Bool.{or_cases, or_left, or_right, or_parts, and_parts, and_from, both_ways, eq-eqb, eqb-true}
 use Rattle.std.proofs.lemmas.List.{length-map}
 use Rattle.oxc_mangler.proofs.Counting.{no_more}
-use Rattle.oxc_mangler.proofs.Given.{Leader, from-append, from-filter, from-map, group_own, leader_of, not_kept, one_of, places_rise, tells}
-use Rattle.oxc_mangler.proofs.Order.{AllOf-append, AllOf-map, PairsOf-append, at_scope, homes}
+use Rattle.oxc_mangler.proofs.Given.{Leader, from-filter, from-map, group_own, leader_of, member_at, members-at, not_kept, one_of, tells}
+use Rattle.oxc_mangler.proofs.Mangling.{from-leading}
+use Rattle.oxc_mangler.proofs.Passing.{among-in}
+use Rattle.oxc_mangler.proofs.PrivateChains.{in-among, to-distinct}
+use Rattle.oxc_mangler.proofs.Runs.{PairsOf-map}
 use Rattle.oxc_mangler.proofs.SlotNamed.{filter-apart, map-apart}
 use Rattle.oxc_mangler.proofs.Together.{live_together}
-use Rattle.oxc_mangler.specs.Groups.{Group, Member, greatest, greatest_width, group_at, group_led_by, group_of, groups, groups_of, is_live, leads, members, reaches, width}
+use Rattle.oxc_mangler.proofs.Used.{leaders-apart}
+use Rattle.oxc_mangler.specs.Groups.{Group, Member, greatest, greatest_width, group_at, group_led_by, group_of, groups_of, is_live, leads, members, reaches, width}
 use Rattle.oxc_mangler.specs.Kept.{kept_alone}
 use Rattle.oxc_mangler.specs.Mangled.{IsRival, changes, implied, names_where}
 use Rattle.oxc_mangler.specs.Open.{all_open}
@@ -23,143 +27,29 @@ use Rattle.tree_nodes.specs.declared.table.Role.TheVariants.{Declares}
 use Rattle.tree_places.proofs.Blind.{sites-renamed}
 use Rattle.tree_places.proofs.Outwards.{inside-antisym, same-eq, same-refl}
 use Rattle.tree_places.proofs.Rising.{numbers_rise}
-use Rattle.tree_places.proofs.Runs.{AllOf, PairsOf}
-use Rattle.tree_places.specs.Laws.{AreNumbered, RiseFrom}
-use Rattle.tree_places.specs.Places.{Named, Place, Site, named_by, names, places, scopes, sites, withs}
+use Rattle.tree_places.proofs.Runs.{PairsOf}
+use Rattle.tree_places.specs.Places.{Place, Site, named_by, names, places, scopes, sites, withs}
 use Rattle.tree_places.specs.Scopes.{Scope, first_outwards, is_inside, same_scope}
-use Rattle.tree_semantic.proofs.Lists.{First, In, any-from, any-some, contains_from_in, find-first, find-none, in_from_Contains, map-map, none_some, some_one, tested, told}
+use Rattle.tree_semantic.proofs.Lists.{First, In, any-from, any-some, contains_from_in, find-first, find-none, in_from_Contains, none_some, some_one, tested, told}
 use Rattle.tree_semantic.proofs.Separate.{names_separate}
 use Rattle.tree_semantic.proofs.Stay.{At, binder_source, binding_function, binding_plain, binding_refers, binding_source, declares_plain, first_own, plainly}
 use Rattle.tree_semantic.specs.Bindings.{Bound, binder, binding, bound, declares_at, is_node, names_function_at, node, node_of, or_else, plain_binder, same_name, shadower}
 use Rattle.tree_semantic.specs.Faults.{has_crossing}
 use Rattle.tree_semantic.specs.Homes.{declares, declares_plainly, home, is_function_name, is_var, names_function, refers}
-use Rattle.tree_semantic.specs.PrivateNames.{distinct, distinct_after, is_among}
+use Rattle.tree_semantic.specs.PrivateNames.{distinct}
 use Rattle.tree_semantic.specs.Renamings.{IsBindingOf, is_bound_inside, is_live_in}
 use Rattle.tree_semantic.specs.Separation.{IsShadowedBy, function_names_apart}
 
 -- ---- lists
 
--- what holds of the images of two items
-mapped : {X Y : Type 0} (R : Y → Y → Type 0) (f : X → Y) (xs : List X) → PairsOf (λ x y. R (f x) (f y)) xs → PairsOf R (map f xs)
-mapped R f [] p = tt
-mapped {X} {Y} R f (x ∷ xs) p = (each xs p.0, mapped R f xs p.1)
-  where
-    each : (ys : List X) → AllOf (λ y. R (f x) (f y)) ys → AllOf (R (f x)) (map f ys)
-    each [] a = tt
-    each (y ∷ ys) a = (a.0, each ys a.1)
-
-weaker : {X : Type 0} (R S : X → X → Type 0) → ((x y : X) → R x y → S x y) → (xs : List X) → PairsOf R xs → PairsOf S xs
-weaker R S f [] p = tt
-weaker R S f (x ∷ xs) p = (AllOf-map (R x) (S x) (f x) xs p.0, weaker R S f xs p.1)
-
-in-distinct_after : (before xs : List Text) (x : Text) → In x xs → (is_among before x ≡ true) ⊎ In x (distinct_after before xs)
-unfolding all_open
-in-distinct_after before [] x i = absurd i
-in-distinct_after before (y ∷ ys) x i = go (is_among before y) refl i (in-distinct_after before ys x) (in-distinct_after (y ∷ before) ys x)
-  where
-    go : (b : Bool) → is_among before y ≡ b → (y ≡ x) ⊎ In x ys → (In x ys → (is_among before x ≡ true) ⊎ In x (distinct_after before ys)) → (In x ys → (is_among (y ∷ before) x ≡ true) ⊎ In x (distinct_after (y ∷ before) ys))
-        → (is_among before x ≡ true) ⊎ In x (elim b as (λ c. List Text) [ true ↦ distinct_after before ys | false ↦ y ∷ distinct_after (y ∷ before) ys ])
-    go true q (inl e) ih jh = inl (subst (λ (z : Text). is_among before z ≡ true) e q)
-    go true q (inr j) ih jh = ih j
-    go false q (inl e) ih jh = inr (inl e)
-    go false q (inr j) ih jh = at (jh j)
-      where
-        at : (is_among (y ∷ before) x ≡ true) ⊎ In x (distinct_after (y ∷ before) ys) → (is_among before x ≡ true) ⊎ In x (y ∷ distinct_after (y ∷ before) ys)
-        at (inl e) = first (or_cases _ _ e)
-          where
-            first : (same_name x y ≡ true) ⊎ (list_any (same_name x) before ≡ true) → (is_among before x ≡ true) ⊎ In x (y ∷ distinct_after (y ∷ before) ys)
-            first (inl s) = inr (inl (sym ((tells x y).0 s)))
-            first (inr s) = inl s
-        at (inr k) = inr (inr k)
-
 pub in-distinct : (xs : List Text) (x : Text) → In x xs → In x (distinct xs)
 unfolding all_open
-in-distinct xs x i = go (in-distinct_after [] xs x i)
-  where
-    go : (false ≡ true) ⊎ In x (distinct_after [] xs) → In x (distinct_after [] xs)
-    go (inl e) = absurd (both_ways false refl e)
-    go (inr j) = j
+in-distinct xs x i = among-in (distinct xs) x (to-distinct [] xs x (in-among xs x i) refl)
 
 pub greatest-most : (f : Scope → ℕ) (ss : List Scope) (n : ℕ) → ((s : Scope) → f s ≤ n) → greatest (map f ss) ≤ n
 unfolding all_open
 greatest-most f [] n h = omega arith
 greatest-most f (s ∷ ss) n h = let i : f s ≤ n = h s in let j : greatest (map f ss) ≤ n = greatest-most f ss n h in omega (arith, i, j)
-
--- ---- no group of a tree comes twice
-
-all-above : {N : Type 0} (m n : ℕ) (ps : List (Named N)) → m ≤ n → RiseFrom n (map node ps) → AllOf (λ q. m ≤ node q) ps
-unfolding all_open
-all-above m n [] h r = tt
-all-above m n (p ∷ ps) h r = ((let i : n ≤ node p = r.0 in omega (arith, h, i)), all-above m (suc (node p)) ps (let i : n ≤ node p = r.0 in omega (arith, h, i)) r.1)
-
-nodes-apart : {N : Type 0} (n : ℕ) (ps : List (Named N)) → RiseFrom n (map node ps) → PairsOf (λ p q. node p ≡ node q → ⊥) ps
-unfolding all_open
-nodes-apart n [] r = tt
-nodes-apart {N} n (p ∷ ps) r = (AllOf-map (λ (q : Named N). suc (node p) ≤ node q) (λ q. node p ≡ node q → ⊥) (λ q h e. omega (arith, h, e)) ps (all-above (suc (node p)) (suc (node p)) ps (omega arith) r.1), nodes-apart (suc (node p)) ps r.1)
-
--- a scope's number is at least n
-abbrev From : ℕ → Scope → Type 0
-From n r = (k : ℕ) × (outer : Scope) × (r ≡ k ∷ outer) × (n ≤ k)
-
-from-before : (m : ℕ) (before ss : List Scope) → m ≤ length before → AreNumbered before ss → AllOf (From m) ss
-unfolding all_open
-from-before m before [] h a = tt
-from-before m before (s ∷ ss) h a = ((length before, a.0.0, a.0.1, h), from-before m (s ∷ before) ss (omega (arith, h)) a.1)
-
-scopes-apart : (before ss : List Scope) → AreNumbered before ss → PairsOf (λ s r. s ≡ r → ⊥) ss
-unfolding all_open
-scopes-apart before [] a = tt
-scopes-apart before (s ∷ ss) a = (
-  AllOf-map (From (suc (length before))) (λ r. s ≡ r → ⊥)
-      (λ r f e. let q : length before ≡ f.0 = ap (λ (x : Scope). elim x [ [] ↦ 0 | n ∷ ns ↦ n ]) (sym a.0.1 ∙ e ∙ f.2) in let l : suc (length before) ≤ f.0 = f.3 in omega (arith, q, l))
-      ss (from-before (suc (length before)) (s ∷ before) ss (omega arith) a.1),
-  scopes-apart (s ∷ before) ss a.1,
-)
-
-abbrev pub Other : Group → Group → Type 0
-Other g h = g ≡ h → ⊥
-
-other-homes : (leaders : List Member) (s : Scope) (ss : List Scope) → AllOf (λ r. s ≡ r → ⊥) ss → AllOf (λ (h : Group). s ≡ h.home → ⊥) (flat_map (at_scope leaders) ss)
-unfolding all_open
-other-homes leaders s [] a = tt
-other-homes leaders s (r ∷ rs) a =
-    AllOf-append (λ (h : Group). s ≡ h.home → ⊥) (at_scope leaders r) (flat_map (at_scope leaders) rs)
-    (AllOf-map (λ (h : Group). h.home ≡ r) (λ (h : Group). s ≡ h.home → ⊥) (λ h e i. a.0 (i ∙ e)) (at_scope leaders r) (homes leaders r))
-    (other-homes leaders s rs a.1)
-
-abbrev Nodes_apart : Member → Member → Type 0
-Nodes_apart m n = node m.place ≡ node n.place → ⊥
-
-at-apart : (leaders : List Member) (s : Scope) → PairsOf Nodes_apart leaders → PairsOf Other (at_scope leaders s)
-unfolding all_open
-at-apart leaders s p =
-    let led : Member → Group = λ m. record { leader = node m.place; home = home m.place.site } in
-    let here : List Member = filter (λ m. same_scope (home m.place.site) s) leaders in
-    mapped Other led here (weaker Nodes_apart (λ m n. Other (led m) (led n)) (λ m n f e. f (ap (λ (g : Group). g.leader) e)) here (filter-apart Nodes_apart (λ m. same_scope (home m.place.site) s) leaders p))
-
-groups-apart : (leaders : List Member) (ss : List Scope) → PairsOf Nodes_apart leaders → PairsOf (λ s r. s ≡ r → ⊥) ss → PairsOf Other (flat_map (at_scope leaders) ss)
-unfolding all_open
-groups-apart leaders [] p q = tt
-groups-apart leaders (s ∷ ss) p q =
-    let further : AllOf (λ (h : Group). s ≡ h.home → ⊥) (flat_map (at_scope leaders) ss) = other-homes leaders s ss q.0 in
-    PairsOf-append Other (at_scope leaders s) (flat_map (at_scope leaders) ss) (at-apart leaders s p) (groups-apart leaders ss p q.1)
-    (AllOf-map (λ (g : Group). g.home ≡ s) (λ g. AllOf (Other g) (flat_map (at_scope leaders) ss))
-    (λ g e. AllOf-map (λ (h : Group). s ≡ h.home → ⊥) (Other g) (λ h no i. no (sym e ∙ ap (λ (x : Group). x.home) i)) (flat_map (at_scope leaders) ss) further)
-    (at_scope leaders s) (homes leaders s))
-
--- where a group comes from
-pub group-source : (ss : List Scope) (ms : List Member) (g : Group) → In g (groups ss ms) → (m : Member) × In m ms × (leads m ≡ true) × (group_led_by m ≡ g)
-unfolding all_open
-group-source [] ms g i = absurd i
-group-source (s ∷ ss) ms g i = go (from-append (map group_led_by (filter (λ n. same_scope (home n.place.site) s) (filter leads ms))) (groups ss ms) g i) (group-source ss ms g)
-  where
-    go : In g (map group_led_by (filter (λ n. same_scope (home n.place.site) s) (filter leads ms))) ⊎ In g (groups ss ms) → (In g (groups ss ms) → (m : Member) × In m ms × (leads m ≡ true) × (group_led_by m ≡ g))
-        → (m : Member) × In m ms × (leads m ≡ true) × (group_led_by m ≡ g)
-    go (inl j) ih =
-        let w : (m : Member) × In m (filter (λ n. same_scope (home n.place.site) s) (filter leads ms)) × (group_led_by m ≡ g) = from-map group_led_by (filter (λ n. same_scope (home n.place.site) s) (filter leads ms)) g j in
-        let l : In w.0 ms × (leads w.0 ≡ true) = from-filter leads ms w.0 (from-filter (λ n. same_scope (home n.place.site) s) (filter leads ms) w.0 w.1).0 in
-        (w.0, l.0, l.1, w.2)
-    go (inr j) ih = ih j
 
 -- ---- the same places under two columns of names
 
@@ -308,6 +198,9 @@ module _ (t : Parts) where
 
 -- ---- a live group's leader is live
 
+abbrev pub Other : Group → Group → Type 0
+Other g h = g ≡ h → ⊥
+
 function_home : (s : Site) → names_function s ≡ true → home s ≡ s.setting.scope
 unfolding all_open
 function_home s h = go s.setting.role (and_parts _ _ h).1
@@ -326,14 +219,6 @@ module _ (o : Options) (t : Parts) where
   abbrev kept : List ℕ
   kept = kept_alone o (withs t) (places t) (bound same_name (places t))
 
-  -- a place as a member
-  abbrev pub member_at : Place → Member
-  member_at p = record { place = p; binding = binding same_name (places t) p; group = group_in o t p }
-
-  pub members-at : members o t ≡ map member_at (places t)
-  unfolding all_open
-  members-at = map-map (λ (p : Place). record { place = p; binding = binding same_name (places t) p }) (λ (b : Bound Text). record { place = b.place; binding = b.binding; group = group_at kept ps bs b.binding }) (places t)
-
   -- the place that leads a group
   pub record Led (g : Group) : Type 0 where
     pub leader : Place
@@ -348,14 +233,14 @@ module _ (o : Options) (t : Parts) where
   node_told (Some m) n h = ap Some (eqb-true m n h)
 
   pub led : (g : Group) → In g (groups_of o t) → Led g
-  unfolding all_open
+  unfolding all_open member_at
   led g i =
-      let w : (m : Member) × In m (members o t) × (leads m ≡ true) × (group_led_by m ≡ g) = group-source (scopes t) (members o t) g i in
-      let p : (p : Place) × In p (places t) × (member_at p ≡ w.0) = from-map member_at (places t) w.0 (subst (In w.0) (members-at) w.1) in
-      let l : leads (member_at p.0) ≡ true = subst (λ (m : Member). leads m ≡ true) (sym p.2) w.2 in
+      let w : (m : Member) × In m (members o t) × (leads m ≡ true) × (group_led_by m ≡ g) = from-leading (scopes t) (members o t) g i in
+      let p : (p : Place) × In p (places t) × (member_at o t p ≡ w.0) = from-map (member_at o t) (places t) w.0 (subst (In w.0) (members-at o t) w.1) in
+      let l : leads (member_at o t p.0) ≡ true = subst (λ (m : Member). leads m ≡ true) (sym p.2) w.2 in
       let two : ((declares p.0.site && is_node (binding same_name (places t) p.0) (node p.0)) ≡ true) × (is_node (group_in o t p.0) (node p.0) ≡ true) = and_parts _ _ l in
       let three : (declares p.0.site ≡ true) × (is_node (binding same_name (places t) p.0) (node p.0) ≡ true) = and_parts _ _ two.0 in
-      let same : group_led_by (member_at p.0) ≡ g = ap group_led_by p.2 ∙ w.3 in
+      let same : group_led_by (member_at o t p.0) ≡ g = ap group_led_by p.2 ∙ w.3 in
       record {
         leader = p.0;
         is = record { among = contains_from_in (places t) p.0 p.1; declares = three.0; own = node_told (binding same_name (places t) p.0) (node p.0) three.1 };
@@ -365,7 +250,7 @@ module _ (o : Options) (t : Parts) where
       }
 
   live_leader : (g : Group) (d : Led g) (s : Scope) → is_live (members o t) s g ≡ true → is_live_in same_name (places t) d.leader s ≡ true
-  unfolding all_open
+  unfolding all_open member_at
   live_leader g d s live = go (or_cases _ _ live)
     where
       here : s ≡ home d.leader.site → is_live_in same_name (places t) d.leader s ≡ true
@@ -377,7 +262,7 @@ module _ (o : Options) (t : Parts) where
           let two : (is_inside s g.home ≡ true) × (list_any (reaches g s) (members o t) ≡ true) = and_parts _ _ e in
           let inside : is_inside s (home d.leader.site) ≡ true = subst (λ (x : Scope). is_inside s x ≡ true) d.homed two.0 in
           let w : (m : Member) × In m (members o t) × (reaches g s m ≡ true) = any-some (reaches g s) (members o t) two.1 in
-          let q : (q : Place) × In q (places t) × (member_at q ≡ w.0) = from-map member_at (places t) w.0 (subst (In w.0) (members-at) w.1) in
+          let q : (q : Place) × In q (places t) × (member_at o t q ≡ w.0) = from-map (member_at o t) (places t) w.0 (subst (In w.0) (members-at o t) w.1) in
           let three : (is_node (group_in o t q.0) g.leader ≡ true) × (is_inside q.0.site.setting.scope s ≡ true) = and_parts _ _ (subst (λ (m : Member). reaches g s m ≡ true) (sym q.2) w.2) in
           let group : group_in o t q.0 ≡ Some (node d.leader) = node_told (group_in o t q.0) g.leader three.0 ∙ ap Some d.number in
           told (binding same_name (places t) q.0)
@@ -403,10 +288,7 @@ module _ (o : Options) (t : Parts) where
 
   -- no group comes twice
   pub groups-differ : PairsOf Other (groups_of o t)
-  unfolding all_open
-  groups-differ = groups-apart (filter leads (members o t)) (scopes t)
-      (filter-apart Nodes_apart leads (members o t) (subst (PairsOf Nodes_apart) (sym (members-at)) (mapped Nodes_apart member_at (places t) (nodes-apart 0 (places t) (places_rise t)))))
-      (scopes-apart [] (scopes t) (numbers_rise t).1)
+  groups-differ = PairsOf-map (λ (g h : Group). g.leader ≡ h.leader → ⊥) Other (λ g h f e. f (ap (λ (x : Group). x.leader) e)) (groups_of o t) (leaders-apart o t)
 
   -- ---- a rival
 
@@ -544,14 +426,14 @@ module _ (o : Options) (t : Parts) where
     used = distinct (names_where changes (members o t) (places w))
 
     each_used : (g : Group) → In g (groups_of o t) → In (name_of g) used
-    unfolding all_open used
+    unfolding all_open used member_at
     each_used g i =
         let d : Led g = led g i in
         let u : Under d.leader = under_w d.leader (in_from_Contains (places t) d.leader d.is.among) in
         subst (λ (x : Text). In x used) (sym (named g d u))
         (in-distinct (names_where changes (members o t) (places w)) u.place.name
-        (subst (λ (ms : List Member). In u.place.name (names_where changes ms (places w))) (sym (members-at))
-        (beside-named changes member_at d.leader u.place (places t) (places w) u.beside (ap is_some d.group))))
+        (subst (λ (ms : List Member). In u.place.name (names_where changes ms (places w))) (sym (members-at o t))
+        (beside-named changes (member_at o t) d.leader u.place (places t) (places w) u.beside (ap is_some d.group))))
 
     narrow : (s : Scope) → width (members o t) (groups_of o t) s ≤ length used
     unfolding all_open

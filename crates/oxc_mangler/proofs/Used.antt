@@ -182,9 +182,14 @@ module _ (o : Options) (t : Parts) where
       later bs [] b l e = tt
       later bs (r ∷ rs) b l e = ((λ q. let w : length before ≡ length bs = sym e ∙ ap (λ (x : Scope). elim x as (λ y. ℕ) [ [] ↦ 0 | n ∷ ns ↦ n ]) q ∙ first r bs b.0.1 in omega (arith, w, l)), later (r ∷ bs) rs b.1 (omega (arith, l)) e)
 
+  -- no two groups have one leader
+  pub leaders-apart : PairsOf (λ g h. g.leader ≡ h.leader → ⊥) (groups_of o t)
+  unfolding all_open
+  leaders-apart = groups-apart (scopes t) (scopes-apart [] (scopes t) (numbers_rise t).1) (λ g i. i)
+
   slots-apart : PairsOf (λ d e. d.group.leader ≡ e.group.leader → ⊥) (slots_of o t)
   unfolding all_open
-  slots-apart = back (slots_of o t) (subst (PairsOf Apart_groups) (sym (slotted-groups (members o t) [] (groups_of o t))) (groups-apart (scopes t) (scopes-apart [] (scopes t) (numbers_rise t).1) (λ g i. i)))
+  slots-apart = back (slots_of o t) (subst (PairsOf Apart_groups) (sym (slotted-groups (members o t) [] (groups_of o t))) leaders-apart)
     where
       each : (d : Slotted) (ds : List Slotted) → AllOf (Apart_groups d.group) (map (λ e. e.group) ds) → AllOf (λ (e : Slotted). d.group.leader ≡ e.group.leader → ⊥) ds
       each d [] a = tt

@@ -19,13 +19,13 @@ unfoldable pub forbidden : Options → List Member → List Text
 forbidden o ms = reserved_keywords ++ (name_eval ∷ name_arguments ∷ (o.reserved ++ map (λ m. m.place.name) (filter is_unchanged ms)))
 
 -- the number of a tree's slots and that of the different forbidden names
-unfoldable pub bound : Options → Parts → ℕ
-bound o t = number_of_slots (slots_of o t) + length (distinct (forbidden o (members o t)))
+unfoldable pub candidate_limit : Options → Parts → ℕ
+candidate_limit o t = number_of_slots (slots_of o t) + length (distinct (forbidden o (members o t)))
 
 -- each name that a slot gets is a candidate whose number is below these two together
 abbrev pub NamesAreBounded : Type 0
-NamesAreBounded = (o : Options) (t : Parts) (x : Text) → Contains (names_of_slots o t) x → (n : ℕ) × (x ≡ candidate o.readable n) × (n < bound o t)
+NamesAreBounded = (o : Options) (t : Parts) (x : Text) → Contains (names_of_slots o t) x → (n : ℕ) × (x ≡ candidate o.readable n) × (n < candidate_limit o t)
 
 -- which is below 2 ^ 31, where the tree's nodes and the reserved names are fewer than 2 ^ 30
 abbrev pub BoundIsSmall : Type 0
-BoundIsSmall = (o : Options) (t : Parts) → count_nodes t + length o.reserved < 2 ^ 30 → bound o t < 2 ^ 31
+BoundIsSmall = (o : Options) (t : Parts) → count_nodes t + length o.reserved < 2 ^ 30 → candidate_limit o t < 2 ^ 31

@@ -3,3 +3,4 @@ pub mod Stay
 pub mod Faultless
 pub mod VarScopes
 pub mod Separate
+pub mod FunctionNames

@@ -29,25 +29,25 @@ use Rattle.tree_semantic.proofs.Lists.{In}
 
 -- ---- the nearest scope outwards whose number is that of a var scope
 
-abbrev nearest : (ℕ → Bool) → Scope → Scope
+abbrev pub nearest : (ℕ → Bool) → Scope → Scope
 nearest v [] = []
 nearest v (n ∷ ns) = cond (v n) (n ∷ ns) (nearest v ns)
 
-abbrev Below : ℕ → Scope → Type 0
+abbrev pub Below : ℕ → Scope → Type 0
 Below n s = AllOf (λ k. k < n) s
 
 -- below n, the same numbers are those of var scopes
-abbrev Agree : (ℕ → Bool) → (ℕ → Bool) → ℕ → Type 0
+abbrev pub Agree : (ℕ → Bool) → (ℕ → Bool) → ℕ → Type 0
 Agree u v n = (k : ℕ) → k < n → u k ≡ v k
 
-record Fits (v : ℕ → Bool) (n : ℕ) (e : Setting) : Type 0 where
-  below : Below n e.scope
-  near : nearest v e.scope ≡ e.var_scope
+pub record Fits (v : ℕ → Bool) (n : ℕ) (e : Setting) : Type 0 where
+  pub below : Below n e.scope
+  pub near : nearest v e.scope ≡ e.var_scope
 
-abbrev AllFit : (ℕ → Bool) → ℕ → List Site → Type 0
+abbrev pub AllFit : (ℕ → Bool) → ℕ → List Site → Type 0
 AllFit v n ss = AllOf (λ q. Fits v n q.setting) ss
 
-AllOf-map : {X : Type 0} (P Q : X → Type 0) → ((x : X) → P x → Q x) → (xs : List X) → AllOf P xs → AllOf Q xs
+pub AllOf-map : {X : Type 0} (P Q : X → Type 0) → ((x : X) → P x → Q x) → (xs : List X) → AllOf P xs → AllOf Q xs
 AllOf-map P Q f [] a = tt
 AllOf-map P Q f (x ∷ xs) a = (f x a.0, AllOf-map P Q f xs a.1)
 
@@ -59,7 +59,7 @@ of-each {X} P (y ∷ ys) x a i = go i (of-each P ys x a.1)
     go (inl e) ih = subst P e a.0
     go (inr j) ih = ih j
 
-AllOf-reverse : {X : Type 0} (P : X → Type 0) (xs : List X) → AllOf P xs → AllOf P (reverse xs)
+pub AllOf-reverse : {X : Type 0} (P : X → Type 0) (xs : List X) → AllOf P xs → AllOf P (reverse xs)
 unfolding all_open
 AllOf-reverse P [] a = tt
 AllOf-reverse P (x ∷ xs) a = rw (reverse_onto xs x []) (AllOf-push P (reverse xs) x (AllOf-reverse P xs a.1) a.0)
@@ -72,7 +72,7 @@ nearest-same u v n (k ∷ ks) f b =
 below-more : (m n : ℕ) (s : Scope) → m ≤ n → Below m s → Below n s
 below-more m n s h b = AllOf-map (λ k. k < m) (λ k. k < n) (λ k i. omega (arith, h, i)) s b
 
-fits-more : (u v : ℕ → Bool) (m n : ℕ) (e : Setting) → m ≤ n → Agree u v m → Fits u m e → Fits v n e
+pub fits-more : (u v : ℕ → Bool) (m n : ℕ) (e : Setting) → m ≤ n → Agree u v m → Fits u m e → Fits v n e
 fits-more u v m n e h f p = record { below = below-more m n e.scope h p.below; near = sym (nearest-same u v m e.scope f p.below) ∙ p.near }
 
 all-more : (u v : ℕ → Bool) (m n : ℕ) (ss : List Site) → m ≤ n → Agree u v m → AllFit u m ss → AllFit v n ss
@@ -98,20 +98,20 @@ inside-near u n h e p =
 
 -- ---- the walk
 
-record After (u : ℕ → Bool) (s s' : Seen) : Type 0 where
-  vars : ℕ → Bool
-  agree : Agree u vars (length s.scopes)
-  more : length s.scopes ≤ length s'.scopes
-  placed : AllFit vars (length s'.scopes) s'.sites
+pub record After (u : ℕ → Bool) (s s' : Seen) : Type 0 where
+  pub vars : ℕ → Bool
+  pub agree : Agree u vars (length s.scopes)
+  pub more : length s.scopes ≤ length s'.scopes
+  pub placed : AllFit vars (length s'.scopes) s'.sites
 
-record Met (u : ℕ → Bool) (s s' : Seen) (inner : Setting) : Type 0 where
-  after : After u s s'
-  inside : Fits after.vars (length s'.scopes) inner
+pub record Met (u : ℕ → Bool) (s s' : Seen) (inner : Setting) : Type 0 where
+  pub after : After u s s'
+  pub inside : Fits after.vars (length s'.scopes) inner
 
 abbrev inner : Opens → Setting → Bool → Seen → Setting
 inner o e strict s = opened o (length s.scopes) s.classes (record e { strict = strict })
 
-mark-scope : (k : Mark) (fields : Parts) (n : ℕ) (o : List ℕ) (e : Setting) → (with_mark k fields n o e).scope ≡ e.scope
+pub mark-scope : (k : Mark) (fields : Parts) (n : ℕ) (o : List ℕ) (e : Setting) → (with_mark k fields n o e).scope ≡ e.scope
 unfolding all_open
 mark-scope Usual fields n o e = refl
 mark-scope _ fields n o e = refl
@@ -121,7 +121,7 @@ unfolding all_open
 mark-var Usual fields n o e = refl
 mark-var _ fields n o e = refl
 
-mark-role : (k : Mark) (fields : Parts) (n : ℕ) (o : List ℕ) (e : Setting) → (with_mark k fields n o e).role ≡ e.role
+pub mark-role : (k : Mark) (fields : Parts) (n : ℕ) (o : List ℕ) (e : Setting) → (with_mark k fields n o e).role ≡ e.role
 unfolding all_open
 mark-role Usual fields n o e = refl
 mark-role _ fields n o e = refl
@@ -131,7 +131,7 @@ unfolding all_open
 side-fits true v n a p q = q
 side-fits false v n a p q = p
 
-field-fits : (f : Column) (v : ℕ → Bool) (n : ℕ) (a : Around) → Fits v n a.outside → Fits v n a.inside → Fits v n (at_field f a)
+pub field-fits : (f : Column) (v : ℕ → Bool) (n : ℕ) (a : Around) → Fits v n a.outside → Fits v n a.inside → Fits v n (at_field f a)
 unfolding all_open
 field-fits f v n a p q =
     let s : Fits v n (side f.inside a) = side-fits f.inside v n a p q in
@@ -159,7 +159,7 @@ newly u h s s' e e' l w i j p a =
       };
     }
 
-met-fits : (o : Opens) (b : ℕ) (e : Setting) (strict : Bool) (u : ℕ → Bool) (s : Seen) → Fits u (length s.scopes) e → AllFit u (length s.scopes) s.sites
+pub met-fits : (o : Opens) (b : ℕ) (e : Setting) (strict : Bool) (u : ℕ → Bool) (s : Seen) → Fits u (length s.scopes) e → AllFit u (length s.scopes) s.sites
     → Met u s (met o b e (inner o e strict s).scope s) (inner o e strict s)
 unfolding all_open
 met-fits Nothing b e strict u s p a = unopened u s _ e _ refl refl refl p a
@@ -176,7 +176,7 @@ met-fits BareBlock b e strict u s p a = go e.bare
     go true = unopened u s _ e _ refl refl refl p a
     go false = newly u false s _ e _ refl refl refl refl p a
 
-then-after : (u : ℕ → Bool) (s s' s'' : Seen) (a : After u s s') → After a.vars s' s'' → After u s s''
+pub then-after : (u : ℕ → Bool) (s s' s'' : Seen) (a : After u s s') → After a.vars s' s'' → After u s s''
 then-after u s s' s'' a b = record {
   vars = b.vars;
   agree = λ k i. a.agree k i ∙ b.agree k (let m : length s.scopes ≤ length s'.scopes = a.more in omega (arith, i, m));
@@ -184,7 +184,7 @@ then-after u s s' s'' a b = record {
   placed = b.placed;
 }
 
-walk-fits : (x : Parts) (columns : Along) (a : Around) (s : Seen) (u : ℕ → Bool) → Fits u (length s.scopes) a.outside → Fits u (length s.scopes) a.inside → AllFit u (length s.scopes) s.sites
+pub walk-fits : (x : Parts) (columns : Along) (a : Around) (s : Seen) (u : ℕ → Bool) → Fits u (length s.scopes) a.outside → Fits u (length s.scopes) a.inside → AllFit u (length s.scopes) s.sites
     → After u s (walk x columns a s)
 unfolding all_open
 walk-fits done columns a s u p q r = record { vars = u; agree = λ k i. refl; more = omega arith; placed = r }
@@ -264,7 +264,7 @@ pins (UnlessComputed i r) = is_pinned r
 pins (NamesExpression i j) = true
 pins _ = false
 
-abbrev hands_on : Mode → Bool
+abbrev pub hands_on : Mode → Bool
 hands_on Same = true
 hands_on Leaves = true
 hands_on _ = false
@@ -353,7 +353,7 @@ row_fits ExportSpecifier = refl
 row_fits ExportDefaultDeclaration = refl
 row_fits ExportAllDeclaration = refl
 
-no_role : {A : Type 0} → false ≡ true → A
+pub no_role : {A : Type 0} → false ≡ true → A
 no_role h = absurd (both_ways false refl h)
 
 leaf_pinned : (r : Role) → is_pinned (elim r [ ReadWrite ↦ Write | r ↦ r ]) ≡ true → is_pinned r ≡ true

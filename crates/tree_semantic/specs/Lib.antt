@@ -6,3 +6,4 @@ pub mod Faults
 pub mod Renamings
 pub mod Open
 pub mod Separation
+pub mod FunctionNames

@@ -5,7 +5,7 @@ mod laws;
 mod separation_laws;
 
 pub use laws::{bindings_stay, faults_are_never_new};
-pub use separation_laws::names_separate;
+pub use separation_laws::{function_names_stand_apart, names_separate};
 
 #[cfg(test)]
 mod tests;

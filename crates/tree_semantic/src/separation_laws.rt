@@ -1,5 +1,6 @@
-//! The law on names that are in use together. The function here does nothing: it has the law as its contract.
+//! The laws on names that are in use together. The functions here do nothing: each has a law as its contract.
 
+ghost use Rattle.tree_semantic.specs.FunctionNames.{FunctionNamesStandApart};
 ghost use Rattle.tree_semantic.specs.Separation.{NamesSeparate};
 
 /// The law of separation: in a tree without a crossing, where a binding is live in the home of another
@@ -7,4 +8,10 @@ ghost use Rattle.tree_semantic.specs.Separation.{NamesSeparate};
 /// one name at most is a premise, as it is so in every tree that is read.
 pub fn names_separate()
     ensures { NamesSeparate }
+{}
+
+/// The law that no two function-names have one home, where each function expression has one Identifier as
+/// its name, or none.
+pub fn function_names_stand_apart()
+    ensures { FunctionNamesStandApart }
 {}

@@ -8,6 +8,7 @@ ghost use Rattle.oxc_mangler.specs.Shortest.{IsChoice, changed_names};
 ghost use Rattle.tree_places.specs.Places.{places, sites};
 ghost use Rattle.tree_semantic.specs.Bindings.{same_name};
 ghost use Rattle.tree_semantic.specs.Faults.{has_crossing};
+ghost use Rattle.tree_semantic.specs.FunctionNames.{names_functions_once};
 ghost use Rattle.tree_semantic.specs.Separation.{function_names_apart};
 ghost use Rattle.worked_rows.specs.Asked.{defaults, readably};
 ghost use Rattle.worked_rows.specs.Blocks as blocks;
@@ -18,6 +19,7 @@ ghost use Rattle.worked_rows.specs.RivalRows.{TakesFewerByShadowing, always, has
 /// A tree without a crossing whose functions have one name each: no two of its bindings meet. One of
 /// the bindings here is a function-name that is shadowed.
 pub fn separate_names()
+    ensures once { IsTrue (names_functions_once functions.shadowed_name) }
     ensures one_name { IsTrue (function_names_apart (sites functions.shadowed_name)) }
     ensures no_crossing { IsFalse (has_crossing same_name (places functions.shadowed_name)) }
     ensures apart { IsFalse (has_meeting functions.shadowed_name) }
@@ -29,6 +31,7 @@ pub fn names_that_meet()
     ensures one_name { IsTrue (function_names_apart (sites faulty.crossed)) }
     ensures crossing { IsTrue (has_crossing same_name (places faulty.crossed)) }
     ensures meet { IsTrue (has_meeting faulty.crossed) }
+    ensures twice { IsFalse (names_functions_once named_twice) }
     ensures two_names { IsFalse (function_names_apart (sites named_twice)) }
     ensures no_crossing { IsFalse (has_crossing same_name (places named_twice)) }
     ensures two_meet { IsTrue (has_meeting named_twice) }
