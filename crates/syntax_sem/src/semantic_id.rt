@@ -1,6 +1,7 @@
 //! What becomes of ids where what they belong to is copied.
 
 ghost use Rattle.std.specs.Prelude.{◌≡◌, Option};
+ghost use Rattle.syntax_sem.specs.Equality.{DecidesEquality};
 ghost use Rattle.syntax_sem.specs.SemanticId.{cloned_id, cloned_option};
 
 /// Whether a copy of a tree keeps the ids that semantic analysis gave it.
@@ -22,3 +23,8 @@ pub trait SemanticId: Sized + Copy {
     fn clone_cell_option_id(id: Option<Self>, with: CloneInSemanticIds) -> Option<Self>
         ensures { result ≡ cloned_option id with };
 }
+
+/// The law that `==` holds exactly between answers that are the same.
+pub fn answers_on_ids_are_equal_exactly()
+    ensures { DecidesEquality ⟦<CloneInSemanticIds as PartialEq>⟧.eq }
+{}

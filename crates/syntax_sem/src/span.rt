@@ -3,6 +3,8 @@
 ghost use Rattle.std.specs.Prelude.{◌≡◌};
 ghost use Rattle.syntax_sem.specs.Equality.{DecidesEquality};
 
+use oxc_estree::ESTreeSpan;
+
 /// A piece of source text, by the offsets of its first byte and of the byte after its last.
 #[derive(Clone, Copy, Debug, PartialEq, Eq)]
 pub struct Span {
@@ -16,6 +18,16 @@ impl Span {
         ensures { result ≡ record { start = start; end = end } }
     {
         Span { start, end }
+    }
+}
+
+impl ESTreeSpan for Span {
+    ghost start = { λ span. span.start };
+
+    ghost end = { λ span. span.end };
+
+    fn range(self) -> [u32; 2] {
+        [self.start, self.end]
     }
 }
 

@@ -9,359 +9,423 @@ use crate::semantic_id::{CloneInSemanticIds, SemanticId};
 use crate::span::Span;
 use crate::symbol::{RedeclarationId, SymbolFlags, SymbolId};
 use bitflags::Flags;
+use oxc_estree::{CompactSerializer, ESTreeStructSerializer, StructSerializer};
 use oxc_str::CompactStr;
 use std::alloc::{AllocError, Global};
 use std::test::Fail;
 
-/// The names of the constants of a flag type that pass a test, in order.
-fn named<T: Flags + Copy, F: Fn(T) -> bool>(alloc: Global, test: F) -> Result<String, AllocError>
-    requires { F.IsAlwaysCallable test }
-{
-    let mut names = String::new(alloc);
-    for flag in T::flags() {
-        if test(*flag.value()) {
-            names.push_str(flag.name())?;
-            names.push(' ')?;
+/// Whether a text of names with a space between two has a name among them.
+fn is_listed(names: &str, name: &str) -> bool {
+    for listed in names.split(' ') {
+        if listed == name {
+            return true;
         }
     }
-    Ok(names)
+    false
+}
+
+/// The names beside the first call that doesn't answer yes of a constant exactly where they have its name.
+fn wrong_call<'a>(calls: &[(bool, &'a str)], name: &str) -> Option<&'a str> {
+    for (answer, names) in calls {
+        if *answer != is_listed(names, name) {
+            return Some(names);
+        }
+    }
+    None
+}
+
+/// Whether these are the names of the constants of a flag type, in order.
+fn are_names_of<T: Flags>(names: &[&str]) -> bool {
+    let flags = T::flags();
+    if flags.len() != names.len() {
+        return false;
+    }
+    for (flag, name) in flags.iter().zip(names) {
+        if flag.name() != *name {
+            return false;
+        }
+    }
+    true
 }
 
 #[test]
-fn node_flags_and_element_kinds(rt: HostRuntime) -> Result<(), Fail> {
-    let alloc = rt.alloc();
-    assert_eq!(rt;
-        named(alloc, |f: NodeFlags| f.has_jsdoc())?.as_str(),
-        "JSDOC "
-    );
-    assert_eq!(rt;
-        named(alloc, |f: ElementKind| f.is_property())?.as_str(),
-        "PROPERTY "
-    );
-    assert_eq!(rt;
-        named(alloc, |f: ElementKind| f.is_method())?.as_str(),
-        "METHOD "
-    );
-    assert_eq!(rt;
-        named(alloc, |f: ElementKind| f.is_accessor())?.as_str(),
-        "ACCESSOR "
-    );
-    let either = named(alloc, |f: ElementKind| f.is_setter_or_getter())?;
-    assert_eq!(rt; either.as_str(), "SETTER GETTER ");
+fn names_in_order(rt: HostRuntime) {
+    assert!(rt; are_names_of::<NodeFlags>(&["JSDOC"]));
     assert!(rt;
-        ElementKind::ACCESSOR < ElementKind::METHOD && NodeFlags::empty() < NodeFlags::JSDOC
+        are_names_of::<ElementKind>(&["ACCESSOR", "METHOD", "PROPERTY", "SETTER", "GETTER"])
     );
+    assert!(rt;
+        are_names_of::<ReferenceFlags>(&[
+            "READ",
+            "WRITE",
+            "TYPE",
+            "VALUE_AS_TYPE",
+            "NAMESPACE",
+            "MEMBER_WRITE_TARGET",
+            "NONE",
+            "VALUE",
+        ])
+    );
+}
+
+#[test]
+fn names_of_scope_flags_in_order(rt: HostRuntime) {
+    assert!(rt;
+        are_names_of::<ScopeFlags>(&[
+            "STRICT_MODE",
+            "TOP",
+            "FUNCTION",
+            "ARROW",
+            "CLASS_STATIC_BLOCK",
+            "TS_MODULE_BLOCK",
+            "CONSTRUCTOR",
+            "GET_ACCESSOR",
+            "SET_ACCESSOR",
+            "CATCH_CLAUSE",
+            "DIRECT_EVAL",
+            "TS_CONDITIONAL",
+            "WITH",
+            "VAR",
+        ])
+    );
+}
+
+#[test]
+fn names_of_symbol_flags_in_order(rt: HostRuntime) {
+    assert!(rt;
+        are_names_of::<SymbolFlags>(&[
+            "NONE",
+            "FUNCTION_SCOPED_VARIABLE",
+            "BLOCK_SCOPED_VARIABLE",
+            "CONST_VARIABLE",
+            "CLASS",
+            "CATCH_VARIABLE",
+            "FUNCTION",
+            "IMPORT",
+            "TYPE_IMPORT",
+            "TYPE_ALIAS",
+            "INTERFACE",
+            "REGULAR_ENUM",
+            "CONST_ENUM",
+            "ENUM_MEMBER",
+            "TYPE_PARAMETER",
+            "NAMESPACE_MODULE",
+            "VALUE_MODULE",
+            "AMBIENT",
+            "FUNCTION_EXPRESSION",
+            "ASYNC_OR_GENERATOR_FUNCTION",
+            "ENUM",
+            "VARIABLE",
+            "BLOCK_SCOPED",
+            "VALUE",
+            "TYPE",
+            "NAMESPACE",
+        ])
+    );
+}
+
+#[test]
+fn node_flags(rt: HostRuntime) {
+    for flag in NodeFlags::flags() {
+        let calls = [(flag.value().has_jsdoc(), "JSDOC")];
+        assert_eq!(rt; wrong_call(&calls, flag.name()), None);
+    }
+    assert!(rt; NodeFlags::empty() < NodeFlags::JSDOC);
+}
+
+#[test]
+fn element_kinds(rt: HostRuntime) {
+    for flag in ElementKind::flags() {
+        let kind = *flag.value();
+        let calls = [
+            (kind.is_property(), "PROPERTY"),
+            (kind.is_method(), "METHOD"),
+            (kind.is_accessor(), "ACCESSOR"),
+            (kind.is_setter_or_getter(), "SETTER GETTER"),
+        ];
+        assert_eq!(rt; wrong_call(&calls, flag.name()), None);
+    }
+    assert!(rt; ElementKind::ACCESSOR < ElementKind::METHOD);
     assert_eq!(rt; NodeFlags::all().bits() | ElementKind::all().bits(), 0x1f);
-    Ok(())
+}
+
+/// Each call's answer of flags, and the names of the constants of which it answers yes.
+fn reference_calls(flags: ReferenceFlags) -> [(bool, &'static str); 11] {
+    [
+        (flags.is_read(), "READ VALUE"),
+        (flags.is_write(), "WRITE VALUE"),
+        (flags.is_write_only(), "WRITE"),
+        (flags.is_read_write(), "VALUE"),
+        (flags.is_value(), "READ WRITE VALUE"),
+        (flags.is_type(), "TYPE"),
+        (flags.is_type_only(), "TYPE"),
+        (
+            flags.is_read_only(),
+            "READ TYPE VALUE_AS_TYPE NAMESPACE MEMBER_WRITE_TARGET NONE",
+        ),
+        (flags.is_value_as_type(), "VALUE_AS_TYPE"),
+        (flags.is_namespace(), "NAMESPACE"),
+        (flags.is_member_write_target(), "MEMBER_WRITE_TARGET"),
+    ]
 }
 
 #[test]
-fn reference_flags(rt: HostRuntime) -> Result<(), Fail> {
-    let alloc = rt.alloc();
-    assert_eq!(rt;
-        named(alloc, |f: ReferenceFlags| f.is_read())?.as_str(),
-        "READ VALUE "
-    );
-    assert_eq!(rt;
-        named(alloc, |f: ReferenceFlags| f.is_write())?.as_str(),
-        "WRITE VALUE "
-    );
-    assert_eq!(rt;
-        named(alloc, |f: ReferenceFlags| f.is_write_only())?.as_str(),
-        "WRITE "
-    );
-    assert_eq!(rt;
-        named(alloc, |f: ReferenceFlags| f.is_read_write())?.as_str(),
-        "VALUE "
-    );
-    assert_eq!(rt;
-        named(alloc, |f: ReferenceFlags| f.is_value())?.as_str(),
-        "READ WRITE VALUE "
-    );
-    assert_eq!(rt;
-        named(alloc, |f: ReferenceFlags| f.is_type())?.as_str(),
-        "TYPE "
-    );
-    assert_eq!(rt;
-        named(alloc, |f: ReferenceFlags| f.is_type_only())?.as_str(),
-        "TYPE "
-    );
-    let read_only = named(alloc, |f: ReferenceFlags| f.is_read_only())?;
-    let expected = "READ TYPE VALUE_AS_TYPE NAMESPACE MEMBER_WRITE_TARGET NONE ";
-    assert_eq!(rt; read_only.as_str(), expected);
-    Ok(())
-}
-
-#[test]
-fn other_reference_flags(rt: HostRuntime) -> Result<(), Fail> {
-    let alloc = rt.alloc();
-    let names = named(alloc, |f: ReferenceFlags| f.is_value_as_type())?;
-    assert_eq!(rt; names.as_str(), "VALUE_AS_TYPE ");
-    assert_eq!(rt;
-        named(alloc, |f: ReferenceFlags| f.is_namespace())?.as_str(),
-        "NAMESPACE "
-    );
-    let names = named(alloc, |f: ReferenceFlags| f.is_member_write_target())?;
-    assert_eq!(rt; names.as_str(), "MEMBER_WRITE_TARGET ");
+fn reference_flags(rt: HostRuntime) {
+    for flag in ReferenceFlags::flags() {
+        assert_eq!(rt;
+            wrong_call(&reference_calls(*flag.value()), flag.name()),
+            None
+        );
+    }
     let type_and_read = ReferenceFlags::TYPE.union(ReferenceFlags::READ);
     assert!(rt; type_and_read.is_type() && !type_and_read.is_type_only());
-    assert_eq!(rt; ReferenceFlags::read().bits(), 1);
-    assert_eq!(rt; ReferenceFlags::write().bits(), 2);
-    assert_eq!(rt; ReferenceFlags::read_write().bits(), 3);
-    assert_eq!(rt; ReferenceFlags::default().bits(), 0);
-    assert_eq!(rt; ReferenceFlags::all().bits(), 0x3f);
-    Ok(())
 }
 
 #[test]
-fn scope_flags(rt: HostRuntime) -> Result<(), Fail> {
-    let alloc = rt.alloc();
-    assert_eq!(rt;
-        named(alloc, |f: ScopeFlags| f.is_strict_mode())?.as_str(),
-        "STRICT_MODE "
-    );
-    assert_eq!(rt;
-        named(alloc, |f: ScopeFlags| f.is_top())?.as_str(),
-        "TOP VAR "
-    );
-    assert_eq!(rt;
-        named(alloc, |f: ScopeFlags| f.is_function())?.as_str(),
-        "FUNCTION VAR "
-    );
-    assert_eq!(rt;
-        named(alloc, |f: ScopeFlags| f.is_arrow())?.as_str(),
-        "ARROW "
-    );
-    assert_eq!(rt;
-        named(alloc, |f: ScopeFlags| f.is_constructor())?.as_str(),
-        "CONSTRUCTOR "
-    );
-    assert_eq!(rt;
-        named(alloc, |f: ScopeFlags| f.is_set_accessor())?.as_str(),
-        "SET_ACCESSOR "
-    );
-    assert_eq!(rt;
-        named(alloc, |f: ScopeFlags| f.is_catch_clause())?.as_str(),
-        "CATCH_CLAUSE "
-    );
-    assert_eq!(rt;
-        named(alloc, |f: ScopeFlags| f.is_with())?.as_str(),
-        "WITH "
-    );
-    assert_eq!(rt;
-        named(alloc, |f: ScopeFlags| f.is_block())?.as_str(),
-        "STRICT_MODE "
-    );
-    Ok(())
+fn bits_of_reference_flags(rt: HostRuntime) {
+    let rows = [
+        (ReferenceFlags::read(), 1),
+        (ReferenceFlags::write(), 2),
+        (ReferenceFlags::read_write(), 3),
+        (ReferenceFlags::default(), 0),
+        (ReferenceFlags::all(), 0x3f),
+    ];
+    for (flags, bits) in rows {
+        assert_eq!(rt; flags.bits(), bits);
+    }
+}
+
+/// Each call's answer of flags, and the names of the constants of which it answers yes.
+fn scope_calls(flags: ScopeFlags) -> [(bool, &'static str); 15] {
+    [
+        (flags.is_strict_mode(), "STRICT_MODE"),
+        (flags.is_top(), "TOP VAR"),
+        (flags.is_function(), "FUNCTION VAR"),
+        (flags.is_arrow(), "ARROW"),
+        (flags.is_constructor(), "CONSTRUCTOR"),
+        (flags.is_set_accessor(), "SET_ACCESSOR"),
+        (flags.is_catch_clause(), "CATCH_CLAUSE"),
+        (flags.is_with(), "WITH"),
+        (flags.is_block(), "STRICT_MODE"),
+        (flags.is_class_static_block(), "CLASS_STATIC_BLOCK VAR"),
+        (flags.is_ts_module_block(), "TS_MODULE_BLOCK VAR"),
+        (flags.is_set_or_get_accessor(), "GET_ACCESSOR SET_ACCESSOR"),
+        (flags.is_ts_conditional(), "TS_CONDITIONAL"),
+        (flags.contains_direct_eval(), "DIRECT_EVAL"),
+        (
+            flags.is_var(),
+            "TOP FUNCTION CLASS_STATIC_BLOCK TS_MODULE_BLOCK VAR",
+        ),
+    ]
 }
 
 #[test]
-fn other_scope_flags(rt: HostRuntime) -> Result<(), Fail> {
-    let alloc = rt.alloc();
-    let names = named(alloc, |f: ScopeFlags| f.is_class_static_block())?;
-    assert_eq!(rt; names.as_str(), "CLASS_STATIC_BLOCK VAR ");
-    let names = named(alloc, |f: ScopeFlags| f.is_ts_module_block())?;
-    assert_eq!(rt; names.as_str(), "TS_MODULE_BLOCK VAR ");
-    let names = named(alloc, |f: ScopeFlags| f.is_set_or_get_accessor())?;
-    assert_eq!(rt; names.as_str(), "GET_ACCESSOR SET_ACCESSOR ");
-    let names = named(alloc, |f: ScopeFlags| f.is_ts_conditional())?;
-    assert_eq!(rt; names.as_str(), "TS_CONDITIONAL ");
-    let names = named(alloc, |f: ScopeFlags| f.contains_direct_eval())?;
-    assert_eq!(rt; names.as_str(), "DIRECT_EVAL ");
-    let names = named(alloc, |f: ScopeFlags| f.is_var())?;
-    assert_eq!(rt;
-        names.as_str(),
-        "TOP FUNCTION CLASS_STATIC_BLOCK TS_MODULE_BLOCK VAR "
-    );
+fn scope_flags(rt: HostRuntime) {
+    for flag in ScopeFlags::flags() {
+        assert_eq!(rt; wrong_call(&scope_calls(*flag.value()), flag.name()), None);
+    }
+}
+
+#[test]
+fn strict_scopes(rt: HostRuntime) {
     let strict = ScopeFlags::TOP.with_strict_mode(true);
     assert_eq!(rt; strict.bits(), 3);
     assert_eq!(rt; ScopeFlags::TOP.with_strict_mode(false), ScopeFlags::TOP);
     assert!(rt; ScopeFlags::empty().is_block() && !strict.is_block());
     assert_eq!(rt; ScopeFlags::all().bits(), 0x1fff);
-    Ok(())
+}
+
+/// Each call's answer of flags, and the names of the constants of which it answers yes.
+fn symbol_calls(flags: SymbolFlags) -> [(bool, &'static str); 8] {
+    [
+        (flags.is_const_variable(), "CONST_VARIABLE"),
+        (flags.is_catch_variable(), "CATCH_VARIABLE"),
+        (flags.is_type_import(), "TYPE_IMPORT"),
+        (flags.is_import(), "IMPORT TYPE_IMPORT"),
+        (flags.is_ambient(), "AMBIENT"),
+        (flags.is_class(), "CLASS BLOCK_SCOPED VALUE TYPE"),
+        (flags.is_function(), "FUNCTION VALUE"),
+        (
+            flags.is_function_scoped_declaration(),
+            "FUNCTION_SCOPED_VARIABLE VARIABLE VALUE",
+        ),
+    ]
 }
 
 #[test]
-fn symbol_flags(rt: HostRuntime) -> Result<(), Fail> {
-    let alloc = rt.alloc();
-    let names = named(alloc, |f: SymbolFlags| f.is_const_variable())?;
-    assert_eq!(rt; names.as_str(), "CONST_VARIABLE ");
-    let names = named(alloc, |f: SymbolFlags| f.is_catch_variable())?;
-    assert_eq!(rt; names.as_str(), "CATCH_VARIABLE ");
-    let names = named(alloc, |f: SymbolFlags| f.is_type_import())?;
-    assert_eq!(rt; names.as_str(), "TYPE_IMPORT ");
-    let names = named(alloc, |f: SymbolFlags| f.is_import())?;
-    assert_eq!(rt; names.as_str(), "IMPORT TYPE_IMPORT ");
-    let names = named(alloc, |f: SymbolFlags| f.is_ambient())?;
-    assert_eq!(rt; names.as_str(), "AMBIENT ");
-    let names = named(alloc, |f: SymbolFlags| f.is_class())?;
-    assert_eq!(rt; names.as_str(), "CLASS BLOCK_SCOPED VALUE TYPE ");
-    let names = named(alloc, |f: SymbolFlags| f.is_function())?;
-    assert_eq!(rt; names.as_str(), "FUNCTION VALUE ");
-    let names = named(alloc, |f: SymbolFlags| f.is_function_scoped_declaration())?;
-    assert_eq!(rt; names.as_str(), "FUNCTION_SCOPED_VARIABLE VARIABLE VALUE ");
+fn symbol_flags(rt: HostRuntime) {
+    for flag in SymbolFlags::flags() {
+        assert_eq!(rt; wrong_call(&symbol_calls(*flag.value()), flag.name()), None);
+    }
     assert_eq!(rt; SymbolFlags::all().bits(), 0x7ffff);
-    Ok(())
 }
 
-/// The names of the flags of a symbol, unions left out, that pass a test, in order.
-fn of_one_bit<F: Fn(SymbolFlags) -> bool>(alloc: Global, test: F) -> Result<String, AllocError>
-    requires { F.IsAlwaysCallable test }
+/// Each call's answer of flags, and the names of the flags of one bit of which it answers yes.
+fn type_calls(flags: SymbolFlags) -> [(bool, &'static str); 11] {
+    [
+        (flags.is_type_alias(), "TYPE_ALIAS"),
+        (flags.is_interface(), "INTERFACE"),
+        (flags.is_const_enum(), "CONST_ENUM"),
+        (flags.is_enum(), "REGULAR_ENUM CONST_ENUM"),
+        (flags.is_enum_member(), "ENUM_MEMBER"),
+        (flags.is_type_parameter(), "TYPE_PARAMETER"),
+        (flags.is_namespace_module(), "NAMESPACE_MODULE"),
+        (flags.is_value_module(), "VALUE_MODULE"),
+        (
+            flags.is_type(),
+            "TYPE_IMPORT TYPE_ALIAS INTERFACE TYPE_PARAMETER",
+        ),
+        (
+            flags.can_be_referenced_by_type(),
+            "CLASS IMPORT TYPE_IMPORT TYPE_ALIAS INTERFACE REGULAR_ENUM CONST_ENUM ENUM_MEMBER TYPE_PARAMETER NAMESPACE_MODULE VALUE_MODULE",
+        ),
+        (
+            flags.can_be_referenced_as_namespace(),
+            "IMPORT TYPE_IMPORT REGULAR_ENUM CONST_ENUM NAMESPACE_MODULE VALUE_MODULE",
+        ),
+    ]
+}
+
+/// Each call's answer of flags, and the names of the flags of one bit of which it answers yes.
+fn value_calls(flags: SymbolFlags) -> [(bool, &'static str); 5] {
+    let values =
+        "FUNCTION_SCOPED_VARIABLE BLOCK_SCOPED_VARIABLE CLASS FUNCTION IMPORT REGULAR_ENUM CONST_ENUM ENUM_MEMBER VALUE_MODULE";
+    [
+        (
+            flags.is_variable(),
+            "FUNCTION_SCOPED_VARIABLE BLOCK_SCOPED_VARIABLE",
+        ),
+        (
+            flags.is_block_scoped(),
+            "BLOCK_SCOPED_VARIABLE CLASS REGULAR_ENUM CONST_ENUM",
+        ),
+        (flags.is_value(), values),
+        (flags.can_be_referenced_by_value(), values),
+        (
+            flags.can_be_referenced_by_value_as_type(),
+            "FUNCTION_SCOPED_VARIABLE BLOCK_SCOPED_VARIABLE CLASS FUNCTION IMPORT TYPE_IMPORT REGULAR_ENUM CONST_ENUM ENUM_MEMBER VALUE_MODULE",
+        ),
+    ]
+}
+
+#[test]
+fn symbol_flags_of_one_bit(rt: HostRuntime) {
+    for flag in SymbolFlags::flags() {
+        let flags = *flag.value();
+        if flags.bits().count_ones() == 1 {
+            assert_eq!(rt; wrong_call(&type_calls(flags), flag.name()), None);
+            assert_eq!(rt; wrong_call(&value_calls(flags), flag.name()), None);
+        }
+    }
+}
+
+/// The number of an id, and those of its copies: with the ids and without.
+fn numbers<I: SemanticId, F: Fn(I) -> usize>(id: I, number: F) -> [usize; 3]
+    requires { F.IsAlwaysCallable number }
 {
-    named(
-        alloc,
-        |f: SymbolFlags| f.bits().count_ones() == 1 && test(f),
-    )
+    [
+        number(id),
+        number(id.clone_id(CloneInSemanticIds::With)),
+        number(id.clone_id(CloneInSemanticIds::Without)),
+    ]
+}
+
+/// The numbers of the copies of an id that is there or not: with the ids and without.
+fn option_numbers<I: SemanticId, F: Fn(I) -> usize>(id: Option<I>, number: F) -> [Option<usize>; 2]
+    requires { F.IsAlwaysCallable number }
+{
+    let with = match I::clone_cell_option_id(id, CloneInSemanticIds::With) {
+        Some(id) => Some(number(id)),
+        None => None,
+    };
+    let without = match I::clone_cell_option_id(id, CloneInSemanticIds::Without) {
+        Some(id) => Some(number(id)),
+        None => None,
+    };
+    [with, without]
 }
 
 #[test]
-fn types_and_modules(rt: HostRuntime) -> Result<(), Fail> {
-    let alloc = rt.alloc();
+fn ids_in_copies(rt: HostRuntime) {
     assert_eq!(rt;
-        of_one_bit(alloc, |f| f.is_type_alias())?.as_str(),
-        "TYPE_ALIAS "
+        numbers(NodeId::from_usize(7), |id: NodeId| id.index()),
+        [7, 7, 0]
     );
     assert_eq!(rt;
-        of_one_bit(alloc, |f| f.is_interface())?.as_str(),
-        "INTERFACE "
+        numbers(ScopeId::from_usize(8), |id: ScopeId| id.index()),
+        [8, 8, 0]
     );
     assert_eq!(rt;
-        of_one_bit(alloc, |f| f.is_const_enum())?.as_str(),
-        "CONST_ENUM "
+        numbers(SymbolId::from_usize(9), |id: SymbolId| id.index()),
+        [9, 9, 0]
     );
     assert_eq!(rt;
-        of_one_bit(alloc, |f| f.is_enum())?.as_str(),
-        "REGULAR_ENUM CONST_ENUM "
+        numbers(
+            ReferenceId::from_usize(4_294_967_294),
+            |id: ReferenceId| id.index()
+        ),
+        [4_294_967_294, 4_294_967_294, 0]
     );
-    assert_eq!(rt;
-        of_one_bit(alloc, |f| f.is_enum_member())?.as_str(),
-        "ENUM_MEMBER "
-    );
-    assert_eq!(rt;
-        of_one_bit(alloc, |f| f.is_type_parameter())?.as_str(),
-        "TYPE_PARAMETER "
-    );
-    assert_eq!(rt;
-        of_one_bit(alloc, |f| f.is_namespace_module())?.as_str(),
-        "NAMESPACE_MODULE "
-    );
-    assert_eq!(rt;
-        of_one_bit(alloc, |f| f.is_value_module())?.as_str(),
-        "VALUE_MODULE "
-    );
-    let types = of_one_bit(alloc, |f| f.is_type())?;
-    assert_eq!(rt;
-        types.as_str(),
-        "TYPE_IMPORT TYPE_ALIAS INTERFACE TYPE_PARAMETER "
-    );
-    Ok(())
 }
 
 #[test]
-fn values(rt: HostRuntime) -> Result<(), Fail> {
-    let alloc = rt.alloc();
-    let variables = of_one_bit(alloc, |f| f.is_variable())?;
+fn optional_ids_in_copies(rt: HostRuntime) {
+    let node = Some(NodeId::from_usize(7));
     assert_eq!(rt;
-        variables.as_str(),
-        "FUNCTION_SCOPED_VARIABLE BLOCK_SCOPED_VARIABLE "
+        option_numbers(node, |id: NodeId| id.index()),
+        [Some(7), None]
     );
-    let block_scoped = of_one_bit(alloc, |f| f.is_block_scoped())?;
+    let scope = Some(ScopeId::from_usize(8));
     assert_eq!(rt;
-        block_scoped.as_str(),
-        "BLOCK_SCOPED_VARIABLE CLASS REGULAR_ENUM CONST_ENUM "
+        option_numbers(scope, |id: ScopeId| id.index()),
+        [Some(8), None]
     );
-    let expected = format!(in alloc;
-        "{}CLASS FUNCTION IMPORT REGULAR_ENUM CONST_ENUM ENUM_MEMBER VALUE_MODULE ",
-        variables.as_str()
-    )?;
+    let symbol = Some(SymbolId::from_usize(9));
     assert_eq!(rt;
-        of_one_bit(alloc, |f| f.is_value())?.as_str(),
-        expected.as_str()
+        option_numbers(symbol, |id: SymbolId| id.index()),
+        [Some(9), None]
     );
-    let values = of_one_bit(alloc, |f| f.can_be_referenced_by_value())?;
-    assert_eq!(rt; values.as_str(), expected.as_str());
-    let expected = format!(in alloc;
-        "{}CLASS FUNCTION IMPORT TYPE_IMPORT REGULAR_ENUM CONST_ENUM ENUM_MEMBER VALUE_MODULE ",
-        variables.as_str()
-    )?;
-    let values = of_one_bit(alloc, |f| f.can_be_referenced_by_value_as_type())?;
-    assert_eq!(rt; values.as_str(), expected.as_str());
-    Ok(())
+    assert_eq!(rt;
+        option_numbers(None, |id: ReferenceId| id.index()),
+        [None, None]
+    );
 }
 
 #[test]
-fn what_types_name(rt: HostRuntime) -> Result<(), Fail> {
-    let alloc = rt.alloc();
-    let types = of_one_bit(alloc, |f| f.can_be_referenced_by_type())?;
-    let expected =
-        "CLASS IMPORT TYPE_IMPORT TYPE_ALIAS INTERFACE REGULAR_ENUM CONST_ENUM ENUM_MEMBER TYPE_PARAMETER NAMESPACE_MODULE VALUE_MODULE ";
-    assert_eq!(rt; types.as_str(), expected);
-    let spaces = of_one_bit(alloc, |f| f.can_be_referenced_as_namespace())?;
-    let expected = "IMPORT TYPE_IMPORT REGULAR_ENUM CONST_ENUM NAMESPACE_MODULE VALUE_MODULE ";
-    assert_eq!(rt; spaces.as_str(), expected);
-    Ok(())
-}
-
-#[test]
-fn ids(rt: HostRuntime) {
-    use CloneInSemanticIds::{With, Without};
-    let node = NodeId::from_usize(7);
-    assert_eq!(rt; node.index(), 7);
-    assert!(rt; NodeId::ROOT < node && NodeId::default() == NodeId::DUMMY);
-    assert_eq!(rt;
-        [node.clone_id(With), node.clone_id(Without)],
-        [node, NodeId::ROOT]
-    );
-    assert_eq!(rt; NodeId::clone_cell_option_id(Some(node), With), Some(node));
-    assert_eq!(rt; NodeId::clone_cell_option_id(Some(node), Without), None);
-    let scope = ScopeId::from_usize(8);
-    assert_eq!(rt;
-        [
-            scope.clone_id(With).index(),
-            scope.clone_id(Without).index()
-        ],
-        [8, 0]
-    );
-    assert_eq!(rt;
-        ScopeId::clone_cell_option_id(Some(scope), With),
-        Some(scope)
-    );
-    let symbol = SymbolId::from_usize(9);
-    assert_eq!(rt;
-        [
-            symbol.clone_id(With).index(),
-            symbol.clone_id(Without).index()
-        ],
-        [9, 0]
-    );
-    assert_eq!(rt; SymbolId::clone_cell_option_id(Some(symbol), Without), None);
-    let reference = ReferenceId::from_usize(4_294_967_294);
-    assert_eq!(rt; reference.clone_id(With).index(), 4_294_967_294);
-    assert_eq!(rt; ReferenceId::clone_cell_option_id(None, With), None);
+fn other_ids(rt: HostRuntime) {
+    assert!(rt; NodeId::ROOT < NodeId::from_usize(7) && NodeId::default() == NodeId::DUMMY);
     assert_eq!(rt; RedeclarationId::from_usize(1).index(), 1);
     assert_eq!(rt; ClassId::from_usize(4_294_967_295).index(), 4_294_967_295);
     assert_eq!(rt; ElementId::from_usize(3).index(), 3);
 }
 
 #[test]
-fn references(rt: HostRuntime) {
-    let node = NodeId::from_usize(1);
-    let scope = ScopeId::from_usize(2);
+fn references_to_no_symbol(rt: HostRuntime) {
     let symbol = SymbolId::from_usize(3);
-    let mut reference = Reference::new(node, scope, ReferenceFlags::READ);
+    let mut reference = Reference::new(
+        NodeId::from_usize(1),
+        ScopeId::from_usize(2),
+        ReferenceFlags::READ,
+    );
     assert!(rt; reference.is_read() && !reference.is_write());
     assert_eq!(rt; reference.symbol_id(), None);
     reference.set_symbol_id(symbol);
     assert_eq!(rt; reference.symbol_id(), Some(symbol));
     *reference.flags_mut() = ReferenceFlags::TYPE;
     assert!(rt; reference.is_type() && !reference.is_value());
+}
+
+#[test]
+fn references_to_symbols(rt: HostRuntime) {
+    let node = NodeId::from_usize(1);
+    let scope = ScopeId::from_usize(2);
+    let symbol = SymbolId::from_usize(3);
     let known = Reference::new_with_symbol_id(node, symbol, scope, ReferenceFlags::WRITE);
     assert!(rt; known.is_write() && known.is_value());
     assert_eq!(rt; known.node_id(), node);
     assert_eq!(rt; known.scope_id(), scope);
     assert_eq!(rt; known.symbol_id(), Some(symbol));
     assert_eq!(rt; known.flags(), ReferenceFlags::WRITE);
-    assert_eq!(rt; Span::new(4, 5), Span { start: 4, end: 5 });
 }
 
 #[test]
@@ -371,5 +435,38 @@ fn constant_values(rt: HostRuntime) -> Result<(), Fail> {
     let same = ConstantValue::String(CompactStr::new(alloc, "a")?);
     let other = ConstantValue::String(CompactStr::new(alloc, "b")?);
     assert!(rt; a == same && a != other);
+    Ok(())
+}
+
+/// The text of an object that has a span alone.
+fn text_of_span(alloc: Global, span: Span, ranges: bool) -> Result<String, AllocError> {
+    let mut serializer = CompactSerializer::new(alloc, false, ranges)?;
+    let mut state = ESTreeStructSerializer::new(&mut serializer)?;
+    state.serialize_span(span)?;
+    state.end()?;
+    Ok(serializer.into_string())
+}
+
+#[test]
+fn texts_of_spans(rt: HostRuntime) -> Result<(), Fail> {
+    let span = Span::new(4, 4_294_967_295);
+    assert_eq!(rt;
+        span,
+        Span {
+            start: 4,
+            end: 4_294_967_295
+        }
+    );
+    let rows = [
+        (false, "{\"start\":4,\"end\":4294967295}"),
+        (
+            true,
+            "{\"start\":4,\"end\":4294967295,\"range\":[4,4294967295]}",
+        ),
+    ];
+    for (ranges, want) in rows {
+        let text = text_of_span(rt.alloc(), span, ranges)?;
+        assert_eq!(rt; text.as_str(), want);
+    }
     Ok(())
 }
