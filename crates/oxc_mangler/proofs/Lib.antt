@@ -18,3 +18,5 @@ pub mod Bounds
 pub mod Totals
 pub mod Spelled
 pub mod Shortest
+pub mod Characters
+pub mod Guarded

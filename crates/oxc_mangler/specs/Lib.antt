@@ -3,6 +3,7 @@ pub mod ShortNames
 pub mod Kept
 pub mod Groups
 pub mod FreeNames
+pub mod Guard
 pub mod Slots
 pub mod GivenNames
 pub mod PrivateNumbers

@@ -1,16 +1,23 @@
-//! The names that mangling gives: definitions that contracts cite.
+//! The names that mangling gives: short names by their number, names that must not be given, and
+//! definitions that contracts cite.
 #![tactic(auto)]
 
 mod bound_laws;
+mod guard;
 mod laws;
 mod rival_laws;
+mod short_names;
 mod shortest_laws;
+#[cfg(test)]
+mod tests;
 
 pub use bound_laws::names_are_bounded;
+pub use guard::Guard;
 pub use laws::{
     given_names_keep_bindings, lengths_never_fall, live_together, live_up_to_home,
     new_names_mangle, private_names_keep_bindings, private_numbers_differ, short_is_one_to_one,
     slot_names_keep_bindings, slots_are_fewest, slots_never_clash,
 };
 pub use rival_laws::no_rival_uses_fewer;
+pub use short_names::base54;
 pub use shortest_laws::no_choice_is_shorter;
