@@ -1,5 +1,5 @@
 -- Visits of the items of a list, one after the other.
-use Rattle.std.proofs.Common.{◌≡◌, ◌∙◌, ℕ, ◌+◌, ◌<◌, ◌≤◌, List, [], ◌∷◌, ◌++◌, length, take, take_all, drop, get_or, refl, sym, ap}
+use Rattle.std.proofs.Common.{ℕ, List, ◌++◌, take, drop}
 use Rattle.syntax_module.specs.Visits.{on_each}
 
 module _ {V T : Type 0} (visit : V → T → V × T) where

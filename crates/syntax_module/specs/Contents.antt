@@ -1,4 +1,4 @@
--- What two names are compared by: which variant they are, their texts and their spans.
+-- What two names or entries are compared by: which variants they are, their texts and their spans.
 use Rattle.std.specs.Prelude.{ℕ, Bool, Option, None, Some, List}
 use Rattle.std.specs.Option.{option_map}
 use Rattle.oxc_str.specs.Str.{text_of}
@@ -51,3 +51,19 @@ export_local_name name =
       | local.Default at ↦ (1, Some (text_of at.name), Some at.span)
       | local.Null ↦ (2, None, None)
     ]
+
+-- what each field is compared by
+abbrev pub import_entry : ImportEntry → Span × (List ℕ × Span) × (ℕ × Option (List ℕ) × Option Span) × (List ℕ × Span) × Bool
+import_entry entry =
+    (entry.statement_span, name_span entry.module_request, import_import_name entry.import_name, name_span entry.local_name, entry.is_type)
+
+abbrev pub export_entry : ExportEntry → Span × Span × Option (List ℕ × Span) × (ℕ × Option (List ℕ) × Option Span) × (ℕ × Option (List ℕ) × Option Span) × (ℕ × Option (List ℕ) × Option Span) × Bool
+export_entry entry = (
+  entry.statement_span,
+  entry.span,
+  option_map name_span entry.module_request,
+  export_import_name entry.import_name,
+  export_export_name entry.export_name,
+  export_local_name entry.local_name,
+  entry.is_type,
+)

@@ -1,5 +1,5 @@
 -- What the calls of a module record's entries tell.
-use Rattle.std.specs.Prelude.{◌≡◌, ℕ, Bool, true, false, Option, None, Some, List, codes, nat_eq, if◌then◌else◌}
+use Rattle.std.specs.Prelude.{ℕ, Bool, true, false, Option, None, Some, List, codes, nat_eq, if◌then◌else◌}
 use Rattle.std.specs.Cmp.Lexicographic.{pointwise}
 use Rattle.oxc_str.specs.Str.{text_of}
 use Rattle.syntax_module.specs.declared.module_record.entries.ExportEntry.{ExportEntry}

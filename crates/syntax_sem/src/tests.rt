@@ -319,84 +319,63 @@ fn symbol_flags_of_one_bit(rt: HostRuntime) {
     }
 }
 
-/// The number of an id, and those of its copies: with the ids and without.
-fn numbers<I: SemanticId, F: Fn(I) -> usize>(id: I, number: F) -> [usize; 3]
-    requires { F.IsAlwaysCallable number }
-{
-    [
-        number(id),
-        number(id.clone_id(CloneInSemanticIds::With)),
-        number(id.clone_id(CloneInSemanticIds::Without)),
-    ]
+/// The copies of an id: with the ids and without.
+fn copies<I: SemanticId>(id: I) -> (I, I) {
+    (
+        id.clone_id(CloneInSemanticIds::With),
+        id.clone_id(CloneInSemanticIds::Without),
+    )
 }
 
-/// The numbers of the copies of an id that is there or not: with the ids and without.
-fn option_numbers<I: SemanticId, F: Fn(I) -> usize>(id: Option<I>, number: F) -> [Option<usize>; 2]
-    requires { F.IsAlwaysCallable number }
-{
-    let with = match I::clone_cell_option_id(id, CloneInSemanticIds::With) {
-        Some(id) => Some(number(id)),
-        None => None,
-    };
-    let without = match I::clone_cell_option_id(id, CloneInSemanticIds::Without) {
-        Some(id) => Some(number(id)),
-        None => None,
-    };
-    [with, without]
+/// The copies of an id that is there or not: with the ids and without.
+fn option_copies<I: SemanticId>(id: Option<I>) -> (Option<I>, Option<I>) {
+    (
+        I::clone_cell_option_id(id, CloneInSemanticIds::With),
+        I::clone_cell_option_id(id, CloneInSemanticIds::Without),
+    )
 }
 
 #[test]
 fn ids_in_copies(rt: HostRuntime) {
-    assert_eq!(rt;
-        numbers(NodeId::from_usize(7), |id: NodeId| id.index()),
-        [7, 7, 0]
-    );
-    assert_eq!(rt;
-        numbers(ScopeId::from_usize(8), |id: ScopeId| id.index()),
-        [8, 8, 0]
-    );
-    assert_eq!(rt;
-        numbers(SymbolId::from_usize(9), |id: SymbolId| id.index()),
-        [9, 9, 0]
-    );
-    assert_eq!(rt;
-        numbers(
-            ReferenceId::from_usize(4_294_967_294),
-            |id: ReferenceId| id.index()
-        ),
-        [4_294_967_294, 4_294_967_294, 0]
-    );
+    let node = NodeId::from_usize(7);
+    assert!(rt; copies(node) == (node, NodeId::ROOT));
+    let scope = ScopeId::from_usize(8);
+    assert!(rt; copies(scope) == (scope, ScopeId::from_usize(0)));
+    let symbol = SymbolId::from_usize(9);
+    assert!(rt; copies(symbol) == (symbol, SymbolId::from_usize(0)));
+    let reference = ReferenceId::from_usize(4_294_967_294);
+    assert!(rt; copies(reference) == (reference, ReferenceId::from_usize(0)));
 }
 
 #[test]
 fn optional_ids_in_copies(rt: HostRuntime) {
     let node = Some(NodeId::from_usize(7));
-    assert_eq!(rt;
-        option_numbers(node, |id: NodeId| id.index()),
-        [Some(7), None]
-    );
+    assert!(rt; option_copies(node) == (node, None));
     let scope = Some(ScopeId::from_usize(8));
-    assert_eq!(rt;
-        option_numbers(scope, |id: ScopeId| id.index()),
-        [Some(8), None]
-    );
+    assert!(rt; option_copies(scope) == (scope, None));
     let symbol = Some(SymbolId::from_usize(9));
-    assert_eq!(rt;
-        option_numbers(symbol, |id: SymbolId| id.index()),
-        [Some(9), None]
-    );
-    assert_eq!(rt;
-        option_numbers(None, |id: ReferenceId| id.index()),
-        [None, None]
-    );
+    assert!(rt; option_copies(symbol) == (symbol, None));
+    assert!(rt; option_copies::<ReferenceId>(None) == (None, None));
 }
 
 #[test]
-fn other_ids(rt: HostRuntime) {
+fn numbers_of_ids(rt: HostRuntime) {
+    let rows = [
+        (NodeId::from_usize(7).index(), 7),
+        (ScopeId::from_usize(8).index(), 8),
+        (SymbolId::from_usize(9).index(), 9),
+        (
+            ReferenceId::from_usize(4_294_967_294).index(),
+            4_294_967_294,
+        ),
+        (RedeclarationId::from_usize(1).index(), 1),
+        (ClassId::from_usize(4_294_967_295).index(), 4_294_967_295),
+        (ElementId::from_usize(3).index(), 3),
+    ];
+    for (number, expected) in rows {
+        assert_eq!(rt; number, expected);
+    }
     assert!(rt; NodeId::ROOT < NodeId::from_usize(7) && NodeId::default() == NodeId::DUMMY);
-    assert_eq!(rt; RedeclarationId::from_usize(1).index(), 1);
-    assert_eq!(rt; ClassId::from_usize(4_294_967_295).index(), 4_294_967_295);
-    assert_eq!(rt; ElementId::from_usize(3).index(), 3);
 }
 
 #[test]

@@ -9,6 +9,7 @@ use super::{
     ExportEntry, ExportExportName, ExportImportName, ExportLocalName, ImportEntry,
     ImportImportName, NameSpan,
 };
+use syntax_sem::span::spans_are_equal_exactly;
 
 /// Two names are equal exactly where their texts and their places are.
 pub fn name_spans_compare_by_content()
@@ -34,6 +35,26 @@ pub fn export_names_compare_by_content()
 pub fn local_names_compare_by_content()
     ensures { ComparesBy contents.export_local_name ⟦<ExportLocalName<'static> as PartialEq>⟧.eq }
 {}
+
+/// Two entries of imports are equal exactly where all their fields are, names by their texts and places.
+pub fn import_entries_compare_by_content()
+    ensures { ComparesBy contents.import_entry ⟦<ImportEntry<'static> as PartialEq>⟧.eq }
+{
+    spans_are_equal_exactly();
+    name_spans_compare_by_content();
+    import_names_compare_by_content();
+}
+
+/// Two entries of exports are equal exactly where all their fields are, names by their texts and places.
+pub fn export_entries_compare_by_content()
+    ensures { ComparesBy contents.export_entry ⟦<ExportEntry<'static> as PartialEq>⟧.eq }
+{
+    spans_are_equal_exactly();
+    name_spans_compare_by_content();
+    taken_names_compare_by_content();
+    export_names_compare_by_content();
+    local_names_compare_by_content();
+}
 
 /// The default of an entry is an entry of nothing, and of a name that there is none.
 pub fn defaults_are_null(
