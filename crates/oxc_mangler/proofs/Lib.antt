@@ -20,3 +20,4 @@ pub mod Spelled
 pub mod Shortest
 pub mod Characters
 pub mod Guarded
+pub mod NextNames

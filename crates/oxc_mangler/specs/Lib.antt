@@ -4,6 +4,7 @@ pub mod Kept
 pub mod Groups
 pub mod FreeNames
 pub mod Guard
+pub mod NextName
 pub mod Slots
 pub mod GivenNames
 pub mod PrivateNumbers

@@ -5,6 +5,7 @@
 mod bound_laws;
 mod guard;
 mod laws;
+mod next_name;
 mod rival_laws;
 mod short_names;
 mod shortest_laws;
@@ -18,6 +19,7 @@ pub use laws::{
     new_names_mangle, private_names_keep_bindings, private_numbers_differ, short_is_one_to_one,
     slot_names_keep_bindings, slots_are_fewest, slots_never_clash,
 };
+pub use next_name::free_name_from;
 pub use rival_laws::no_rival_uses_fewer;
 pub use short_names::base54;
 pub use shortest_laws::no_choice_is_shorter;
