@@ -21,3 +21,4 @@ pub mod Shortest
 pub mod Characters
 pub mod Guarded
 pub mod NextNames
+pub mod FirstFree
