@@ -1,4 +1,5 @@
 pub mod Entries
+pub mod EntryViews
 pub mod OneScope
 pub mod Flat
 pub mod Laws
