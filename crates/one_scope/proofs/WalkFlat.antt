@@ -2,7 +2,7 @@
 use Rattle.std.specs.Prelude.{◌≡◌, ℕ, zero, suc, Bool, true, false, ◌&&◌, cond, List, [], ◌∷◌, ◌++◌, reverse}
 use Rattle.std.specs.List.{AllByRecursion}
 use Rattle.std.proofs.Common.{refl, sym, ap, subst, ◌∙◌}
-use Rattle.std.proofs.lemmas.Bool.{and_parts, false≢true}
+use Rattle.std.proofs.lemmas.Bool.{and_from, and_parts, false≢true}
 use Rattle.std.proofs.lemmas.Grind.{reverse_onto}
 use Rattle.one_scope.specs.OneScope.{IsFlat, IsFlatTree, are_inner, inner_kinds, is_flat_role, is_flat_value, is_one_scope}
 use Rattle.one_scope.specs.Open.{all_open}
@@ -72,9 +72,9 @@ unfolding all_open
 part-inner done i h = refl
 part-inner (atom v more) zero h = refl
 part-inner (atom v more) (suc i) h = part-inner more i h
-part-inner (many items more) zero h = let p = and_parts _ _ h in rw p.0 refl
+part-inner (many items more) zero h = and_from _ _ (and_parts _ _ h).0 refl
 part-inner (many items more) (suc i) h = part-inner more i (and_parts _ _ h).1
-part-inner (child k s e fields more) zero h = let p = and_parts _ _ h in rw p.0 refl
+part-inner (child k s e fields more) zero h = and_from _ _ (and_parts _ _ h).0 refl
 part-inner (child k s e fields more) (suc i) h = part-inner more i (and_parts _ _ h).1
 
 kind-value : (k : Kind) (s e : ℕ) (fields more : Parts) → is_in k inner_kinds ≡ true → naming_value (child k s e fields more) ≡ naming_value done
