@@ -1,0 +1,7 @@
+pub mod Entries
+pub mod EntryViews
+pub mod Listing
+pub mod OneScope
+pub mod Flat
+pub mod Laws
+pub mod Open
