@@ -1,4 +1,7 @@
 //! Mangling of trees whose only scope is the Program.
 #![tactic(auto)]
 
+mod flat_laws;
 mod laws;
+
+pub use flat_laws::flat_faults;

@@ -1,0 +1,3 @@
+pub mod FlatSites
+pub mod FlatFaults
+pub mod FlatTrees
