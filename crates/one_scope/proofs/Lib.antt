@@ -1,3 +1,6 @@
+pub mod FlatLists
 pub mod FlatSites
 pub mod FlatFaults
+pub mod FlatBindings
+pub mod FlatKept
 pub mod FlatTrees
