@@ -1,8 +1,8 @@
 -- In a flat tree a name stands for its binding: the first place that declares the name.
-use Rattle.std.specs.Prelude.{◌≡◌, ℕ, Bool, true, false, cond, not, ◌&&◌, List, [], ◌∷◌, find, Option, Some, None}
+use Rattle.std.specs.Prelude.{◌≡◌, ℕ, Bool, true, false, cond, ◌&&◌, List, [], ◌∷◌, find, Option, Some, None}
 use Rattle.std.proofs.Common.{refl, sym, ap, ◌∙◌}
 use Rattle.one_scope.proofs.FlatLists.{find-same, find_nothing}
-use Rattle.one_scope.proofs.FlatSites.{and_no, declaring, homed, nameless, other_declares, plain, referring}
+use Rattle.one_scope.proofs.FlatSites.{declaring, homed, nameless, other_declares, plain, referring}
 use Rattle.one_scope.specs.OneScope.{IsFlat}
 use Rattle.one_scope.specs.Open.{all_open}
 use Rattle.tree_nodes.specs.Tree.{Text}

@@ -1,7 +1,7 @@
 -- In a flat tree a binding is kept where all are, or where its name is reserved; each other one is a group of its own.
 use Rattle.std.specs.Prelude.{◌≡◌, ℕ, Bool, true, false, cond, not, ◌&&◌, ◌||◌, nat_eq, List, [], ◌∷◌, map, filter, find, Option, Some, None}
 use Rattle.std.specs.List.{list_any}
-use Rattle.std.proofs.Common.{refl, sym, ap, ◌∙◌, subst, inl, inr}
+use Rattle.std.proofs.Common.{refl, sym, ap, ◌∙◌, subst}
 use Rattle.std.proofs.lemmas.Bool.{and_parts, and_from, eq-eqb, eqb-true}
 use Rattle.one_scope.proofs.FlatBindings.{binding_first, declares_as, first_of, unshadowed}
 use Rattle.one_scope.proofs.FlatLists.{bool_same, find_only}
@@ -12,15 +12,15 @@ use Rattle.one_scope.specs.OneScope.{IsFlat}
 use Rattle.one_scope.specs.Open.{all_open}
 use Rattle.oxc_mangler.proofs.Given.{from-filter, from-map, in-filter, in-map, tells}
 use Rattle.oxc_mangler.specs.Groups.{Member, group_at, group_of, members_of}
-use Rattle.oxc_mangler.specs.Kept.{gets_value, has_number, holds_with, is_assigned, is_declared_with, is_exported, is_kept_alone, is_of_root, is_place_of, is_reserved, is_root, kept_alone, name_kept, role_kept, value_kept}
+use Rattle.oxc_mangler.specs.Kept.{gets_value, has_number, is_assigned, is_declared_with, is_exported, is_kept_alone, is_of_root, is_place_of, is_reserved, is_root, kept_alone, name_kept, role_kept, value_kept}
 use Rattle.oxc_mangler.specs.Options.{Options}
 use Rattle.tree_nodes.specs.Tree.{Text}
 use Rattle.tree_places.specs.Laws.{RiseFrom}
 use Rattle.tree_places.specs.Places.{Place}
 use Rattle.tree_places.specs.Scopes.{Scope, is_inside}
-use Rattle.tree_semantic.proofs.Lists.{First, In, any-from, any-map, any-same, any-some, find-first, map-map, map-same, told}
+use Rattle.tree_semantic.proofs.Lists.{In, any-from, any-map, any-same, any-some, find-first, map-map, map-same, told}
 use Rattle.tree_semantic.proofs.Stay.{one_place}
-use Rattle.tree_semantic.specs.Bindings.{Bound, binding, bound, is_binding, is_node, node, node_of, same_name, shadower}
+use Rattle.tree_semantic.specs.Bindings.{Bound, binding, is_binding, is_node, node, node_of, same_name, shadower}
 use Rattle.tree_semantic.specs.Evals.{holds_eval, is_eval}
 use Rattle.tree_semantic.specs.Homes.{declares, home, is_declaring, refers}
 

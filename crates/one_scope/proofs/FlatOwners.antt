@@ -1,5 +1,5 @@
 -- In a flat tree the leaders of groups are the first places of the names that are given up, in their order.
-use Rattle.std.specs.Prelude.{◌≡◌, ◌⊎◌, ℕ, suc, ◌≤◌, Bool, true, false, cond, not, ◌&&◌, ◌||◌, nat_eq, List, [], ◌∷◌, ◌++◌, map, filter, find, Option, Some, None, is_some}
+use Rattle.std.specs.Prelude.{◌≡◌, ◌⊎◌, ℕ, suc, ◌≤◌, Bool, true, false, cond, not, ◌&&◌, ◌||◌, List, [], ◌∷◌, ◌++◌, map, filter, find, Option, Some, None, is_some}
 use Rattle.std.specs.List.{list_any}
 use Rattle.std.proofs.Common.{refl, sym, ap, ◌∙◌, subst, arith, inl, inr}
 use Rattle.std.proofs.lemmas.Bool.{and_parts, and_from, both_ways, eq-eqb, eqb-true, ne_eqb}
@@ -7,8 +7,8 @@ use Rattle.std.proofs.lemmas.List.{append_assoc}
 use Rattle.std.proofs.lemmas.List.Folds.{list_any-append}
 use Rattle.one_scope.proofs.FlatBindings.{declares_as, first_of}
 use Rattle.one_scope.proofs.FlatKept.{group_named, keeps, member}
-use Rattle.one_scope.proofs.FlatLists.{bool_same, filter-map, filter-same, filter_none, filter_twice, find_early, find_past}
-use Rattle.one_scope.proofs.FlatSites.{and_no, and_yes, declaring}
+use Rattle.one_scope.proofs.FlatLists.{bool_same, filter-same, filter_none, filter_twice, find_early, find_past}
+use Rattle.one_scope.proofs.FlatSites.{and_no, declaring}
 use Rattle.one_scope.specs.Entries.{Entry, entry_of}
 use Rattle.one_scope.specs.Flat.{declared_names, keeps_all, slot_owners}
 use Rattle.one_scope.specs.OneScope.{IsFlat}
@@ -20,13 +20,13 @@ use Rattle.oxc_mangler.specs.Options.{Options}
 use Rattle.tree_nodes.specs.Tree.{Text}
 use Rattle.tree_places.specs.Laws.{RiseFrom}
 use Rattle.tree_places.specs.Places.{Place}
-use Rattle.tree_semantic.proofs.Lists.{First, In, any-from, any-map, any-some, find-first, map-map, none_some, tested, told}
+use Rattle.tree_semantic.proofs.Lists.{First, In, any-from, any-map, any-some, find-first, tested, told}
 use Rattle.tree_semantic.proofs.Stay.{above, one_place}
 use Rattle.tree_semantic.specs.Bindings.{is_node, node, node_of, same_name}
 use Rattle.tree_semantic.specs.Homes.{declares, is_declaring}
 use Rattle.tree_semantic.specs.PrivateNames.{distinct_after, is_among}
 
-name_told : (x y : Text) → same_name x y ≡ true → x ≡ y
+pub name_told : (x y : Text) → same_name x y ≡ true → x ≡ y
 name_told x y = (tells x y).0
 
 name_same : (x y : Text) → x ≡ y → same_name x y ≡ true

@@ -2,7 +2,7 @@
 use Rattle.std.specs.Prelude.{◌≡◌, ◌⊎◌, ℕ, zero, suc, ◌+◌, ◌≤◌, ◌<◌, max, Bool, true, false, cond, ◌||◌, nat_eq, List, [], ◌∷◌, ◌++◌, map, length, filter, find, Option, Some, None}
 use Rattle.std.specs.List.{list_any, position_from}
 use Rattle.std.proofs.Common.{refl, sym, ap, ◌∙◌, subst, arith, inl, inr}
-use Rattle.std.proofs.lemmas.Bool.{or_left, or_right, both_ways, cases_order, eq-eqb, eqb-true, ne_eqb}
+use Rattle.std.proofs.lemmas.Bool.{or_left, or_right, cases_order, eq-eqb, eqb-true, ne_eqb}
 use Rattle.std.proofs.lemmas.List.{append-nil, append_assoc}
 use Rattle.one_scope.proofs.FlatKept.{member}
 use Rattle.one_scope.proofs.FlatLists.{bool_same, filter-map, filter_all}
@@ -12,13 +12,13 @@ use Rattle.one_scope.specs.OneScope.{IsFlat}
 use Rattle.one_scope.specs.Open.{all_open}
 use Rattle.oxc_mangler.proofs.Given.{from-filter, from-map}
 use Rattle.oxc_mangler.specs.GivenNames.{count_from}
-use Rattle.oxc_mangler.specs.Groups.{Group, Member, greatest, group_led_by, groups, is_live, leads}
+use Rattle.oxc_mangler.specs.Groups.{Group, Member, greatest, group_led_by, groups, leads}
 use Rattle.oxc_mangler.specs.Options.{Options}
 use Rattle.oxc_mangler.specs.Slots.{Slotted, least_missing, number_of_slots, slot_after, slot_of, slots, slots_after, slots_live}
 use Rattle.tree_nodes.specs.Tree.{Text}
 use Rattle.tree_places.proofs.Outwards.{same-refl}
 use Rattle.tree_places.specs.Places.{Place}
-use Rattle.tree_places.specs.Scopes.{Scope, same_scope}
+use Rattle.tree_places.specs.Scopes.{same_scope}
 use Rattle.tree_semantic.proofs.Lists.{In, map-map, map-same}
 use Rattle.tree_semantic.specs.Bindings.{is_node, node, same_name}
 use Rattle.tree_semantic.specs.Homes.{home}

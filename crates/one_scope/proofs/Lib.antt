@@ -5,4 +5,5 @@ pub mod FlatBindings
 pub mod FlatKept
 pub mod FlatOwners
 pub mod FlatSlots
+pub mod FlatNames
 pub mod FlatTrees

@@ -4,4 +4,4 @@
 mod flat_laws;
 mod laws;
 
-pub use flat_laws::flat_faults;
+pub use flat_laws::{flat_faults, flat_names};
