@@ -41,9 +41,6 @@ name_either x y = bool_same (same_name x y) (same_name y x) (λ e. name_same y x
 unfoldable is_first : List Place → Place → Bool
 is_first ps p = is_declaring p.site.setting.role && is_node (first_of ps p.name) (node p)
 
-name_of : Place → Text
-name_of p = p.name
-
 apart_in : (n : ℕ) (xs ys : List Place) (c p : Place) → RiseFrom n (map node (xs ++ ys)) → In c xs → In p ys → node c ≡ node p → ⊥
 unfolding all_open
 apart_in n [] ys c p r i j e = i
