@@ -119,8 +119,8 @@ walk-follows (child k b e fields more) columns a s within l g f =
     let s₂ : Seen = walk fields (each (row k).columns) around s₁ in
     let l₂ : Role → Listing = λ r. list_run fields (each (row k).columns) r fields (meet (row k).opens r (text_of fields) l) in
     let inside : Follows (l₂ here.role) s₂ =
-        walk-follows fields (each (row k).columns) around s₁ fields (meet (row k).opens here.role (text_of fields) l) (hidden-agrees k here.role fields)
-        (met-follows (row k).opens b here around.inside.scope s (text_of fields) l f) in
+    walk-follows fields (each (row k).columns) around s₁ fields (meet (row k).opens here.role (text_of fields) l) (hidden-agrees k here.role fields)
+    (met-follows (row k).opens b here around.inside.scope s (text_of fields) l f) in
     let role_is : here.role ≡ role_at (first_column columns).mode a.outside.role within = field-role (first_column columns) a ∙ first-agrees columns _ _ _ g in
     walk-follows more (other_columns columns) a s₂ within (l₂ (role_at (first_column columns).mode a.outside.role within)) (others-agree columns _ _ _ g)
     (subst (λ (r : Role). Follows (l₂ r) s₂) role_is inside)

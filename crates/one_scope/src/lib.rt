@@ -11,3 +11,6 @@ pub use entry::Entry;
 pub use one_scope::is_one_scope;
 pub use walk::list_places;
 pub use walk_laws::one_scope_is_flat;
+
+#[cfg(test)]
+mod tests;
