@@ -14,10 +14,10 @@ use Rattle.tree_nodes.specs.declared.kind.Kind.TheVariants.{Identifier, PrivateI
 use Rattle.tree_nodes.specs.declared.table.Mark.{Mark}
 use Rattle.tree_nodes.specs.declared.table.Mark.TheVariants.{Usual}
 use Rattle.tree_nodes.specs.declared.table.Opens.{Opens}
-use Rattle.tree_nodes.specs.declared.table.Opens.TheVariants.{BareBlock, Block, ClassMembers, Hoisting, NameHere, Nothing, PrivateNameHere, WithBody}
+use Rattle.tree_nodes.specs.declared.table.Opens.TheVariants.{NameHere, PrivateNameHere}
 use Rattle.tree_nodes.specs.declared.table.Role.{Role}
 use Rattle.tree_nodes.specs.declared.table.Role.TheVariants.{Plain, Read}
-use Rattle.tree_places.specs.Places.{Around, Named, Seen, Setting, Site, at_field, before_all, enter, hide, is_place, met, named_by, names, nothing_yet, places, seen, sites, unmarked, walk, with_mark}
+use Rattle.tree_places.specs.Places.{Around, Seen, Setting, Site, at_field, before_all, enter, hide, is_place, met, named_by, names, nothing_yet, sites, unmarked, walk, with_mark}
 use Rattle.tree_places.specs.Scopes.{Scope}
 
 -- ---- a role doesn't look at what is hidden
