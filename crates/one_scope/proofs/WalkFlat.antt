@@ -1,7 +1,7 @@
 -- In a tree whose only scope is the Program each place lies in that scope, and is read, called or declared by `var`, `let` or `const`.
 use Rattle.std.specs.Prelude.{◌≡◌, ℕ, zero, suc, Bool, true, false, ◌&&◌, cond, List, [], ◌∷◌, ◌++◌, reverse}
 use Rattle.std.specs.List.{AllByRecursion}
-use Rattle.std.proofs.Common.{refl, sym, ap, subst, ◌∙◌}
+use Rattle.std.proofs.Common.{refl, ap}
 use Rattle.std.proofs.lemmas.Bool.{and_from, and_parts, false≢true}
 use Rattle.std.proofs.lemmas.Grind.{reverse_onto}
 use Rattle.one_scope.specs.OneScope.{IsFlat, IsFlatTree, are_inner, inner_kinds, is_flat_role, is_flat_value, is_one_scope}
@@ -14,10 +14,9 @@ use Rattle.tree_nodes.specs.Table.{Column, row, unlisted}
 use Rattle.tree_nodes.specs.Tree.{Parts, Tree, alone, atom, child, done, flag_of, many, part, word_of}
 use Rattle.tree_nodes.specs.declared.kind.Kind.{Kind}
 use Rattle.tree_nodes.specs.declared.kind.Kind.TheVariants.{CallExpression, ExpressionStatement, Hashbang, Identifier, Literal, Program, VariableDeclaration, VariableDeclarator}
-use Rattle.tree_nodes.specs.declared.table.Declared.TheVariants.{Const, Let, Var}
 use Rattle.tree_nodes.specs.declared.table.Role.{Role}
 use Rattle.tree_nodes.specs.declared.table.Role.TheVariants.{Called, Declares, Plain, Read}
-use Rattle.tree_places.specs.Places.{Around, Seen, Setting, Site, Value, at_field, before_all, enter, hide, met, naming_value, nothing_yet, scopes, seen, sites, walk, withs}
+use Rattle.tree_places.specs.Places.{Around, Seen, Setting, Site, Value, at_field, before_all, enter, hide, met, naming_value, nothing_yet, seen, walk}
 use Rattle.tree_places.specs.Scopes.{Scope}
 
 -- a setting in the one scope, where an Identifier is read, called or declares

@@ -14,10 +14,10 @@ use Rattle.tree_nodes.specs.declared.kind.Kind.TheVariants.{Identifier, PrivateI
 use Rattle.tree_nodes.specs.declared.table.Mark.{Mark}
 use Rattle.tree_nodes.specs.declared.table.Mark.TheVariants.{Usual}
 use Rattle.tree_nodes.specs.declared.table.Opens.{Opens}
-use Rattle.tree_nodes.specs.declared.table.Opens.TheVariants.{BareBlock, Block, ClassMembers, Hoisting, NameHere, Nothing, PrivateNameHere, WithBody}
+use Rattle.tree_nodes.specs.declared.table.Opens.TheVariants.{NameHere, PrivateNameHere}
 use Rattle.tree_nodes.specs.declared.table.Role.{Role}
 use Rattle.tree_nodes.specs.declared.table.Role.TheVariants.{Plain, Read}
-use Rattle.tree_places.specs.Places.{Around, Named, Seen, Setting, Site, at_field, before_all, enter, hide, is_place, met, named_by, names, nothing_yet, places, seen, sites, unmarked, walk, with_mark}
+use Rattle.tree_places.specs.Places.{Around, Seen, Setting, Site, at_field, before_all, enter, hide, is_place, met, named_by, names, nothing_yet, sites, unmarked, walk, with_mark}
 use Rattle.tree_places.specs.Scopes.{Scope}
 
 -- ---- a role doesn't look at what is hidden
@@ -119,8 +119,8 @@ walk-follows (child k b e fields more) columns a s within l g f =
     let s₂ : Seen = walk fields (each (row k).columns) around s₁ in
     let l₂ : Role → Listing = λ r. list_run fields (each (row k).columns) r fields (meet (row k).opens r (text_of fields) l) in
     let inside : Follows (l₂ here.role) s₂ =
-        walk-follows fields (each (row k).columns) around s₁ fields (meet (row k).opens here.role (text_of fields) l) (hidden-agrees k here.role fields)
-        (met-follows (row k).opens b here around.inside.scope s (text_of fields) l f) in
+    walk-follows fields (each (row k).columns) around s₁ fields (meet (row k).opens here.role (text_of fields) l) (hidden-agrees k here.role fields)
+    (met-follows (row k).opens b here around.inside.scope s (text_of fields) l f) in
     let role_is : here.role ≡ role_at (first_column columns).mode a.outside.role within = field-role (first_column columns) a ∙ first-agrees columns _ _ _ g in
     walk-follows more (other_columns columns) a s₂ within (l₂ (role_at (first_column columns).mode a.outside.role within)) (others-agree columns _ _ _ g)
     (subst (λ (r : Role). Follows (l₂ r) s₂) role_is inside)

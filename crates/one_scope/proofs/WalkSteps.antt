@@ -1,6 +1,6 @@
 -- The walk that lists entries, at one step of its loops.
 use Rattle.std.proofs.Common.{◌≡◌, ℕ, zero, suc, ◌+◌, true, List, [], ◌∷◌, drop, map, slice_get, Option, Some, None, refl, sym, ap, ◌∙◌, arith}
-use Rattle.one_scope.specs.Listing.{Listing, giving, list_run, list_under, meet}
+use Rattle.one_scope.specs.Listing.{Listing, list_run, list_under, meet}
 use Rattle.tree_nodes.specs.Along.{Along, all, each, first_column, other_columns}
 use Rattle.tree_nodes.specs.Look.{are_items, item_at, onto, part_at, past}
 use Rattle.tree_nodes.specs.Roles.{role_at}

@@ -12,3 +12,6 @@ pub use flat_laws::{flat_faults, flat_names};
 pub use one_scope::is_one_scope;
 pub use walk::list_places;
 pub use walk_laws::one_scope_is_flat;
+
+#[cfg(test)]
+mod tests;

@@ -1,4 +1,4 @@
-use Rattle.std.proofs.Common.{◌≡◌, ◌≤◌, sym, ◌∙◌, rules}
+use Rattle.std.proofs.Common.{◌≤◌, sym, ◌∙◌, rules}
 use Rattle.one_scope.specs.OneScope.{are_inner}
 use Rattle.tree_nodes.specs.Look.{parts_len}
 use Rattle.tree_nodes.specs.Tree.{Tree}

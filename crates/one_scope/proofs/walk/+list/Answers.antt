@@ -1,4 +1,4 @@
-use Rattle.std.proofs.Common.{◌≡◌, ◌≤◌, ◌∙◌, ap, map, rules, sym}
+use Rattle.std.proofs.Common.{◌≤◌, ◌∙◌, ap, map, rules, sym}
 use Rattle.std.proofs.lemmas.Result.{IfOk-equal}
 use Rattle.one_scope.specs.EntryViews.{listing_view}
 use Rattle.one_scope.specs.Listing.{list_run, meet}
@@ -6,7 +6,7 @@ use Rattle.tree_nodes.specs.Along.{each, first_column, other_columns}
 use Rattle.tree_nodes.specs.Look.{parts_len}
 use Rattle.tree_nodes.specs.Roles.{role_at}
 use Rattle.tree_nodes.specs.Rows.{column_of}
-use Rattle.tree_nodes.specs.Table.{Column, Row}
+use Rattle.tree_nodes.specs.Table.{Row}
 use Rattle.tree_nodes.specs.Tree.{Tree, text_of}
 use Rattle.tree_nodes.specs.Views.{part_of}
 use Rattle.tree_nodes.proofs.Lists.{past_end, past_items, past_len}

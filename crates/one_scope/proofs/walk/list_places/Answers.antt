@@ -1,4 +1,4 @@
-use Rattle.std.proofs.Common.{◌≡◌, ◌∙◌, List, ap, map}
+use Rattle.std.proofs.Common.{◌∙◌, List, ap, map}
 use Rattle.one_scope.specs.EntryViews.{entry_view}
 use Rattle.one_scope.specs.Entries.{Entry}
 use Rattle.one_scope.specs.Listing.{Listing, list_under}
