@@ -8,6 +8,7 @@ pub mod NextName
 pub mod Slots
 pub mod GivenNames
 pub mod FirstFree
+pub mod SlotOrder
 pub mod PrivateNumbers
 pub mod Mangled
 pub mod Laws
