@@ -32,7 +32,7 @@ count-onto (child k s e fields more) q = add_assoc (if has_name k then suc (coun
 pub drop_both : (p q : ℕ) (cs : List (Option ℕ)) → drop (p + q) cs ≡ drop q (drop p cs)
 drop_both p q cs = sym (drop-drop q p cs)
 
-inner_drop : (k : Kind) (n : ℕ) (cs : List (Option ℕ)) → drop n (inner k cs) ≡ drop (if has_name k then suc n else n) cs
+pub inner_drop : (k : Kind) (n : ℕ) (cs : List (Option ℕ)) → drop n (inner k cs) ≡ drop (if has_name k then suc n else n) cs
 unfolding inner
 inner_drop k n cs = by_test (has_name k)
   where
