@@ -9,6 +9,7 @@ pub mod Counting
 pub mod Passing
 pub mod PrivateChains
 pub mod Untaken
+pub mod Ranks
 pub mod SlotNamed
 pub mod Renamed
 pub mod Used
@@ -22,3 +23,6 @@ pub mod Characters
 pub mod Identifiers
 pub mod Guarded
 pub mod NextNames
+pub mod FirstFree
+pub mod Queues
+pub mod HandedOut

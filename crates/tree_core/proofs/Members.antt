@@ -1,5 +1,5 @@
 -- The members of an object of `serde_json` beside those of the JSON value that it is.
-use Rattle.std.proofs.Common.{◌≡◌, ℕ, zero, suc, ◌≤◌, List, [], ◌∷◌, Bool, true, false, true≢false, ◌&&◌, nat_lt, nat_eq, length, Option, Some, None, option_map, IfSome, Bor, String, Global, string_bytes, Ordering, Less, Equal, Greater, string_cmp, nat_cmp, is_eq, bytes_eq, codes, IsTrue, IsUtf8, IsAscii, if◌then◌else◌, refl, sym, ap, ◌∙◌, arith, rules}
+use Rattle.std.proofs.Common.{◌≡◌, ℕ, zero, suc, ◌≤◌, List, [], ◌∷◌, Bool, true, false, true≢false, ◌&&◌, ◌||◌, nat_lt, nat_eq, length, Option, Some, None, option_map, IfSome, Bor, String, Global, string_bytes, Ordering, Less, Equal, Greater, string_cmp, nat_cmp, is_eq, bytes_eq, codes, IsTrue, IsUtf8, IsAscii, if◌then◌else◌, refl, sym, ap, ◌∙◌, arith, rules}
 use Rattle.std.specs.Cmp.Lexicographic.{slice_cmp}
 use Rattle.std.specs.List.{AllByRecursion}
 use Rattle.std.specs.List.Sorted.{IsStrictlySortedBy}
@@ -13,15 +13,15 @@ use Rattle.std.proofs.lemmas.Str.{IsUtf8-string_bytes}
 use Rattle.json_text.specs.Json.{Json}
 use Rattle.json_text.specs.Units.{units_of}
 use Rattle.json_text.proofs.Units.{text_of_units-units_of, bytes_eq-units_of, units_of-injective}
-use Rattle.serde_json.specs.Data.{Data, array, string, Members, no_members, member, depth, members_depth}
+use Rattle.serde_json.specs.Data.{Data, array, object, string, Members, no_members, member, depth, members_depth}
 use Rattle.serde_json.specs.Find.{get_member}
 use Rattle.serde_json.specs.View.{view, items_view, members_view}
 use Rattle.serde_json.specs.declared.value.Value.{Value, the_lemmas}
 use Rattle.serde_json.specs.declared.value.Value.TheVariants.{String as StringValue}
 use Rattle.serde_json.proofs.Views.{Entry}
 use Rattle.tree_core.specs.JsonOf.{json_of, members_of}
-use Rattle.tree_core.specs.Readable.{is_ascii, is_readable, are_readable}
-use Rattle.tree_core.specs.Reading.{find_member, text_in, is_blank, are_distinct, outer_key, is_known, is_listed}
+use Rattle.tree_core.specs.Readable.{is_ascii, is_readable, is_readable_class, are_readable}
+use Rattle.tree_core.specs.Reading.{find_member, text_in, is_blank, are_distinct, outer_key, is_known, is_listed, literal_part}
 use Rattle.tree_nodes.specs.Table.{Column}
 
 -- ---- keys
@@ -102,11 +102,16 @@ are_distinct-ordered (e ∷ es) h = rw (missing_later e es h.0) (are_distinct-or
 word_is : (word bs : List ℕ) → IsUtf8 bs → IsTrue (is_ascii word) → bytes_eq word (units_of bs) ≡ bytes_eq word bs
 word_is word bs u h = bytes_eq-swap word (units_of bs) ∙ bytes_eq-units_of bs word u (IsAscii-test word h) ∙ bytes_eq-swap bs word
 
+outer_key_is_ascii : (c : Column) → IsTrue (is_readable c) → IsTrue (is_ascii (outer_key c))
+outer_key_is_ascii c h =
+    let keys = (both (is_readable_class c.class) (is_ascii (outer_key c) && is_ascii c.key) h).1 in
+    (both (is_ascii (outer_key c)) (is_ascii c.key) keys).0
+
 is_listed-units_of : (bs : List ℕ) (cs : List Column) → IsUtf8 bs → IsTrue (are_readable cs) → is_listed (units_of bs) cs ≡ is_listed bs cs
 is_listed-units_of bs [] u h = refl
 is_listed-units_of bs (c ∷ cs) u h =
     let here = both (is_readable c) (are_readable cs) h in
-    rw (word_is (outer_key c) bs u (both _ (is_ascii (outer_key c)) here.0).1, is_listed-units_of bs cs u here.1)
+    rw (word_is (outer_key c) bs u (outer_key_is_ascii c here.0), is_listed-units_of bs cs u here.1)
 
 pub is_known-units_of : (bs : List ℕ) (cs : List Column) → IsUtf8 bs → IsTrue (are_readable cs) → is_known (units_of bs) cs ≡ is_known bs cs
 is_known-units_of bs cs u h =
@@ -122,6 +127,17 @@ pub found_falls : (r : Option (Bor Value)) (key : List ℕ) (ms : Members) → o
 found_falls None key ms e = tt
 found_falls (Some v) key ms e = member_falls key ms (view v.now) (sym e)
 
+-- ---- the keys of `regex`
+
+pub regex_key-units_of : (bs : List ℕ) → IsUtf8 bs
+    → (bytes_eq (units_of bs) (codes "pattern") || bytes_eq (units_of bs) (codes "flags"))
+    ≡ (bytes_eq bs (codes "pattern") || bytes_eq bs (codes "flags"))
+regex_key-units_of bs u =
+    rw (
+      bytes_eq-units_of bs (codes "pattern") u (IsAscii-test (codes "pattern") refl),
+      bytes_eq-units_of bs (codes "flags") u (IsAscii-test (codes "flags") refl),
+    ) refl
+
 -- ---- one value
 
 pub view-String : (s : String Global) → view (StringValue s) ≡ string (string_bytes s)
@@ -133,3 +149,8 @@ text_in-String s = rw view-String (text_of_units-units_of (string_bytes s) (IsUt
 pub is_blank_items : (vs : List Value) → nat_eq (length vs) 0 ≡ is_blank (json_of (array (items_view vs)))
 is_blank_items [] = grind arith
 is_blank_items (v ∷ vs) = grind arith
+
+-- an object with keys is no value of a Literal
+pub literal_part-members : (es : List Entry) → (length es ≡ 0 → ⊥) → literal_part (json_of (object (members_view es))) ≡ None
+literal_part-members [] h = absurd (h refl)
+literal_part-members (e ∷ es) h = refl

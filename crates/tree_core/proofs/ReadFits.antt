@@ -7,7 +7,7 @@ use Rattle.json_text.specs.Units.{are_code_units, text_of_units, units_of}
 use Rattle.json_text.proofs.Units.{text_of_units-units_of, IsUtf8-text_of_units, AreCodeUnits-units_of, AreCodeUnits-are_code_units, are_code_units-AreCodeUnits, AreCodeUnits-text_of_units}
 use Rattle.syntax_lex.specs.Identifier.{is_identifier_name}
 use Rattle.tree_nodes.specs.Look.{onto}
-use Rattle.tree_core.specs.Reading.{absent, are_distinct, below, find_member, has_only, is_null_value, is_paired, items_from, list_of, offset_of, one, only_known, or_hole, or_null, outer_key, part_from, part_in, regex_part, row_for, run_of, shape_from, shape_of, supported_row, template_part, text_in, units_in, units_in_list, value_part, word_number}
+use Rattle.tree_core.specs.Reading.{absent, are_distinct, below, find_member, has_only, is_null_value, is_paired, items_from, list_of, literal_part, name_part, offset_of, one, only_known, or_hole, or_null, outer_key, part_from, part_in, regex_part, row_for, run_of, shape_from, shape_of, supported_row, template_part, text_in, units_in, units_in_list, word_number}
 use Rattle.tree_core.specs.Supported.{is_supported}
 use Rattle.tree_nodes.specs.Table.{Column, Row, row, row_among, row_named, word_list}
 use Rattle.tree_nodes.specs.Tree.{Atom, Parts, Tree, Text, alone, atom, child, done, empty, flag, is_empty, many, text, units, whole, word}
@@ -168,15 +168,15 @@ flag_fits (object ms) p e = none_some p e
 whole_back : (n : ℕ) → n < 2 ^ 64 → FitsAtom LiteralValue (whole n)
 whole_back n h = ((λ t ts. rw (lt-ltb n (2 ^ 64) h) refl), omega arith)
 
-value_fits : (d : Json) (p : Parts) → value_part d ≡ Some p → FitsPart LiteralValue p
+value_fits : (d : Json) (p : Parts) → literal_part d ≡ Some p → FitsPart LiteralValue p
 value_fits null p e = as_part LiteralValue (one empty) p e ((λ t ts. refl), tt)
 value_fits (truth b) p e = as_part LiteralValue (one (flag b)) p e ((λ t ts. refl), tt)
 value_fits (number n) p e =
     let a = map_some (λ k. one (whole k)) (below (2 ^ 64) (number n)) p e in
     subst (FitsPart LiteralValue) a.2 (whole_back a.0 (below_bound (2 ^ 64) (number n) a.0 a.1).1)
 value_fits other_number p e = none_some p e
-value_fits (string us) p e = units_part LiteralValue (string us) p (λ vs a. ((λ t ts. units_back vs a), a)) e
-value_fits (list ds) p e = units_part LiteralValue (list ds) p (λ vs a. ((λ t ts. units_back vs a), a)) e
+value_fits (string us) p e = none_some p e
+value_fits (list ds) p e = none_some p e
 value_fits (object no_members) p e = as_part LiteralValue (one empty) p e ((λ t ts. refl), tt)
 value_fits (object (member k d ms)) p e = none_some p e
 
@@ -224,9 +224,7 @@ template_fits c optional k (object ms) p none some e =
     let t = if_some (are_distinct ms && has_only (codes "raw") (codes "cooked") ms) _ p e in
     template_text c optional (find_member k ms) p none some t.1
 
-name_fits : (d : Json) (p : Parts)
-    → option_and_then (λ x. if is_identifier_name x then Some (one (text x)) else None) (text_in d) ≡ Some p
-    → FitsPart Name p
+name_fits : (d : Json) (p : Parts) → name_part d ≡ Some p → FitsPart Name p
 name_fits d p e =
     let a = then_some (λ x. if is_identifier_name x then Some (one (text x)) else None) (text_in d) p e in
     let t = if_some (is_identifier_name a.0) (Some (one (text a.0))) p a.2 in

@@ -2,7 +2,7 @@
 use Rattle.std.specs.Prelude.{ℕ, Bool, true, false, ◌&&◌, List, Option, option_map, nat_lt}
 use Rattle.std.specs.List.{list_all}
 use Rattle.tree_nodes.specs.declared.table.Class.{Class as FieldClass}
-use Rattle.tree_nodes.specs.declared.table.Class.TheVariants.{Flag, Word, Text, TextOr, One, Maybe, Many, ManyOr, Holes}
+use Rattle.tree_nodes.specs.declared.table.Class.TheVariants.{Flag, Flags, Word, Text, TextOr, Name, LiteralValue, Pattern, One, Maybe, Many, ManyOr, Holes}
 use Rattle.json_text.specs.Json.{Json, Members}
 use Rattle.tree_core.specs.Reading.{outer_key, run_of, part_in, part_from, shape_of, list_of, or_hole}
 use Rattle.tree_nodes.specs.Table.{Column}
@@ -18,6 +18,10 @@ is_readable_class Flag = true
 is_readable_class (Word w) = true
 is_readable_class Text = true
 is_readable_class TextOr = true
+is_readable_class Name = true
+is_readable_class LiteralValue = true
+is_readable_class Pattern = true
+is_readable_class Flags = true
 is_readable_class (One g) = true
 is_readable_class (Maybe g) = true
 is_readable_class (Many g) = true
@@ -26,7 +30,7 @@ is_readable_class (Holes g) = true
 is_readable_class _ = false
 
 abbrev pub is_readable : Column → Bool
-is_readable c = is_readable_class c.class && is_ascii (outer_key c)
+is_readable c = is_readable_class c.class && (is_ascii (outer_key c) && is_ascii c.key)
 
 -- the field that a value is in a column
 abbrev pub field_from : Column → Json → Option Parts

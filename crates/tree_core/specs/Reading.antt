@@ -8,7 +8,7 @@ use Rattle.json_text.specs.Units.{are_code_units, text_of_units}
 use Rattle.syntax_lex.specs.Identifier.{is_identifier_name}
 use Rattle.tree_nodes.specs.Look.{onto}
 use Rattle.tree_nodes.specs.Standing.{is_placed}
-use Rattle.tree_core.specs.Supported.{is_supported}
+use Rattle.tree_core.specs.Supported.{is_supported, is_supported_value}
 use Rattle.tree_nodes.specs.Table.{Column, Row, row_named, word_list}
 use Rattle.tree_nodes.specs.Tree.{Atom, Parts, Text, Tree, alone, atom, done, empty, flag, many, text, units, whole, word}
 use Rattle.tree_nodes.specs.declared.kind.Kind.{Kind}
@@ -82,6 +82,14 @@ value_part (list ds) = option_map (λ x. one (units x)) (units_in (list ds))
 value_part (object no_members) = Some (one empty)
 value_part (object (member k d ms)) = None
 
+-- of a Literal's value
+abbrev pub literal_part : Json → Option Parts
+literal_part d = if is_supported_value d then value_part d else None
+
+-- of an identifier name
+abbrev pub name_part : Json → Option Parts
+name_part d = option_and_then (λ x. if is_identifier_name x then Some (one (text x)) else None) (text_in d)
+
 -- an object with these two keys and no others
 abbrev pub has_only : List ℕ → List ℕ → Members → Bool
 has_only k l no_members = true
@@ -137,8 +145,8 @@ part_from Flag k d t ts = elim d [ truth b ↦ Some (one (flag b)) | _ ↦ None 
 part_from (Word w) k d t ts = option_map (λ n. one (word n)) (option_and_then (word_number (word_list w)) (text_in d))
 part_from TextClass k d t ts = option_map (λ x. one (text x)) (text_in d)
 part_from TextOr k d t ts = or_null d (option_map (λ x. one (text x)) (text_in d))
-part_from Name k d t ts = option_and_then (λ x. if is_identifier_name x then Some (one (text x)) else None) (text_in d)
-part_from LiteralValue k d t ts = value_part d
+part_from Name k d t ts = name_part d
+part_from LiteralValue k d t ts = literal_part d
 part_from Pattern k d t ts = regex_part k d
 part_from Flags k d t ts = regex_part k d
 part_from Raw k d t ts = template_part false k d

@@ -69,6 +69,14 @@ impl Program {
         &self.root
     }
 
+    /// The node that `root` lends, in place of the program.
+    pub fn into_root(self) -> Node
+        ensures root { result ≡ self }
+        ensures program { IsProgram self }
+    {
+        self.root
+    }
+
     /// What its source is.
     pub fn source_type(&self) -> SourceType
         ensures { result ≡ source_type_of self.now }

@@ -1,6 +1,6 @@
 //! The reader: the tree that a JSON value is.
 
-ghost use Rattle.std.specs.Prelude.{◌≡◌, List, [], ◌∷◌, ◌++◌, Some, None, true, IsTrue, map, option_map, option_and_then, ◌↔◌, length, ◌≤◌, ◌<◌, ◌+◌, ◌^◌, OnOk, IfOk, IfErr, IfSome};
+ghost use Rattle.std.specs.Prelude.{◌≡◌, ◌||◌, bytes_eq, codes, List, [], ◌∷◌, ◌++◌, Some, None, true, IsTrue, map, option_map, option_and_then, ◌↔◌, length, ◌≤◌, ◌<◌, ◌+◌, ◌^◌, OnOk, IfOk, IfErr, IfSome};
 ghost use Rattle.serde_json.specs.Data.{depth, members_depth};
 ghost use Rattle.serde_json.specs.View.{view, items_view, members_view};
 ghost use Rattle.json_text.specs.Units.{units_of};
@@ -23,6 +23,7 @@ use crate::limits::is_too_large;
 use crate::program::Program;
 use serde_json::{Map, Value};
 use std::alloc::{AllocError, AllocFailed, Global};
+use syntax_lex::identifier::is_identifier_name;
 use thiserror::Error;
 use tree_nodes::{
     Class, Column, Field, FieldList, Kind, Node, NodeList, Row, TreeText, Words, is_placed,
@@ -242,7 +243,15 @@ fn row_for(members: &Map<String, Value>) -> Option<&'static Row>
 }
 
 // The kinds of nodes that the reader takes.
-const SUPPORTED: [Kind; 1] = [Kind::Program];
+const SUPPORTED: [Kind; 7] = [
+    Kind::Program,
+    Kind::ExpressionStatement,
+    Kind::VariableDeclaration,
+    Kind::VariableDeclarator,
+    Kind::CallExpression,
+    Kind::Identifier,
+    Kind::Literal,
+];
 
 #[tactic(auto, unfolding(crate::specs::Supported::is_supported))]
 fn is_supported(kind: Kind) -> bool
@@ -274,6 +283,13 @@ fn word_in(words: Words, value: &Value) -> Option<u8>
     word_number(word_list(words), text_in(value)?)
 }
 
+// A copy of a text.
+fn text_field(alloc: Global, content: &str) -> Result<Field, AllocError>
+    ensures { IfOk result (λ f. part_of f ≡ reading.one (text content.now)) }
+{
+    Ok(Field::Text(TreeText::from_string(String::from_str(alloc, content)?)))
+}
+
 fn read_text(alloc: Global, value: &Value) -> Result<Field, ReadError>
     ensures ok { IfOk result (λ f. option_map (λ x. reading.one (text x))
         (reading.text_in (json_of (view value.now))) ≡ Some (part_of f)) }
@@ -281,7 +297,106 @@ fn read_text(alloc: Global, value: &Value) -> Result<Field, ReadError>
         (reading.text_in (json_of (view value.now))) ≡ None)) }
 {
     match text_in(value) {
-        Some(text) => Ok(Field::Text(TreeText::from_string(String::from_str(alloc, text)?))),
+        Some(text) => Ok(text_field(alloc, text)?),
+        None => Err(ReadError::BadTree),
+    }
+}
+
+fn read_name(alloc: Global, value: &Value) -> Result<Field, ReadError>
+    ensures ok { IfOk result
+        (λ f. reading.name_part (json_of (view value.now)) ≡ Some (part_of f)) }
+    ensures err { IfErr result
+        (λ e. Says e (reading.name_part (json_of (view value.now)) ≡ None)) }
+{
+    match text_in(value) {
+        Some(name) if is_identifier_name(name) => Ok(text_field(alloc, name)?),
+        _ => Err(ReadError::BadTree),
+    }
+}
+
+// A whole number of 64 bits.
+fn whole_number(value: &Value) -> Option<u64>
+    ensures { result ≡ reading.below (2 ^ 64) (json_of (view value.now)) }
+{
+    match value {
+        Value::Number(number) => number.as_u64(),
+        _ => None,
+    }
+}
+
+// The field that a Literal's value is.
+fn literal_value(value: &Value) -> Option<Field>
+    ensures { option_map part_of result ≡ reading.literal_part (json_of (view value.now)) }
+{
+    match value {
+        Value::Null => Some(Field::Empty),
+        Value::Bool(truth) => Some(Field::Flag(*truth)),
+        Value::Number(_) => Some(Field::Whole(whole_number(value)?)),
+        Value::Object(members) => {
+            if members.is_empty() {
+                Some(Field::Empty)
+            } else {
+                None
+            }
+        }
+        Value::String(_) | Value::Array(_) => None,
+    }
+}
+
+// Whether a key is one of those of `regex`.
+fn is_regex_key(key: &str) -> bool
+    ensures { result ≡ (bytes_eq (units_of key.now) (codes "pattern")
+        || bytes_eq (units_of key.now) (codes "flags")) }
+{
+    key == "pattern" || key == "flags"
+}
+
+// Whether an object has the keys of `regex` and no others.
+fn is_regex(members: &Map<String, Value>) -> bool
+    ensures keys { result ≡ reading.has_only (codes "pattern") (codes "flags")
+        (json.members_of (members_view members.now.entries)) }
+    ensures distinct { reading.are_distinct (json.members_of (members_view members.now.entries))
+        ≡ true }
+{
+    for (key, _) in members.iter() {
+        if !is_regex_key(key.as_str()) {
+            return false;
+        }
+    }
+    true
+}
+
+// The text under a key of `regex`, or null where there is no `regex`.
+fn read_regex(alloc: Global, value: &Value, key: &str) -> Result<Field, ReadError>
+    requires { IsTrue (is_ascii key.now) }
+    ensures ok { IfOk result
+        (λ f. reading.regex_part key.now (json_of (view value.now)) ≡ Some (part_of f)) }
+    ensures err { IfErr result
+        (λ e. Says e (reading.regex_part key.now (json_of (view value.now)) ≡ None)) }
+{
+    match value {
+        Value::Null => Ok(Field::Empty),
+        Value::Object(members) => read_regex_text(alloc, members, key),
+        _ => Err(ReadError::BadTree),
+    }
+}
+
+fn read_regex_text(
+    alloc: Global,
+    members: &Map<String, Value>,
+    key: &str,
+) -> Result<Field, ReadError>
+    requires { IsTrue (is_ascii key.now) }
+    ensures ok { IfOk result (λ f. reading.regex_part key.now
+        (object (json.members_of (members_view members.now.entries))) ≡ Some (part_of f)) }
+    ensures err { IfErr result (λ e. Says e (reading.regex_part key.now
+        (object (json.members_of (members_view members.now.entries))) ≡ None)) }
+{
+    if !is_regex(members) {
+        return Err(ReadError::BadTree);
+    }
+    match member(members, key) {
+        Some(value) => read_text(alloc, value),
         None => Err(ReadError::BadTree),
     }
 }
@@ -392,6 +507,12 @@ fn read_part(alloc: Global, value: &Value, column: &Column) -> Result<Field, Rea
                 read_text(alloc, value)
             }
         }
+        Class::Name => read_name(alloc, value),
+        Class::LiteralValue => match literal_value(value) {
+            Some(field) => Ok(field),
+            None => Err(ReadError::BadTree),
+        },
+        Class::Pattern | Class::Flags => read_regex(alloc, value, column.key),
         Class::One(_) => read_child(alloc, value),
         Class::Maybe(_) => {
             if is_null(value) {

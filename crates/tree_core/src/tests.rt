@@ -1,8 +1,9 @@
 //! What the reader takes and refuses, and how a program is looked into.
 
 use crate::{Field, Program, ReadError, SourceType, read_tree};
+use oxc_estree::{CompactFormatter, ConfigFixes, ESTreeSerializer};
 use serde_json::Value;
-use std::alloc::Global;
+use std::alloc::{AllocError, Global};
 use std::test::Fail;
 
 const EMPTY_MODULE: &str =
@@ -85,6 +86,156 @@ fn values_that_are_programs(rt: HostRuntime) -> Result<(), Fail> {
             outcome(rt.alloc(), text, more)?.as_str(),
             wanted,
             "{text} and {more}"
+        );
+    }
+    Ok(())
+}
+
+// What is printed of a module with this body, and the paths to its marks, or why it is not read.
+fn answer(alloc: Global, body: &str) -> Result<String, Fail> {
+    let module = format!(in alloc;
+        "{{\"type\":\"Program\",\"body\":[{body}],\"sourceType\":\"module\"}}"
+    )?;
+    match read(alloc, module.as_str(), 0)? {
+        Ok(program) => {
+            let serializer = ESTreeSerializer::<ConfigFixes, CompactFormatter>::new(
+                alloc, false, false,
+            )?;
+            Ok(serializer.serialize_with_fixes(&program)?)
+        }
+        Err(error) => Ok(format!(in alloc; "{error}")?),
+    }
+}
+
+// The answer where this is printed of the body.
+fn whole(alloc: Global, body: &str, fixes: &str) -> Result<String, AllocError> {
+    format!(in alloc;
+        "{{\"node\":\n{{\"type\":\"Program\",\"start\":0,\"end\":0,\"body\":[{body}],\"sourceType\":\"module\",\"hashbang\":null}}\n,\"fixes\":{fixes}}}"
+    )
+}
+
+#[test]
+fn statements_are_read_and_printed(rt: HostRuntime) -> Result<(), Fail> {
+    let alloc = rt.alloc();
+    for (body, printed) in [
+        // As acorn writes `let x = 1; x`.
+        (
+            "{\"type\":\"VariableDeclaration\",\"start\":0,\"end\":10,\"declarations\":[{\"type\":\"VariableDeclarator\",\"start\":4,\"end\":9,\"id\":{\"type\":\"Identifier\",\"start\":4,\"end\":5,\"name\":\"x\"},\"init\":{\"type\":\"Literal\",\"start\":8,\"end\":9,\"value\":1,\"raw\":\"1\"}}],\"kind\":\"let\"},{\"type\":\"ExpressionStatement\",\"start\":11,\"end\":12,\"expression\":{\"type\":\"Identifier\",\"start\":11,\"end\":12,\"name\":\"x\"}}",
+            "{\"type\":\"VariableDeclaration\",\"start\":0,\"end\":10,\"kind\":\"let\",\"declarations\":[{\"type\":\"VariableDeclarator\",\"start\":4,\"end\":9,\"id\":{\"type\":\"Identifier\",\"start\":4,\"end\":5,\"name\":\"x\"},\"init\":{\"type\":\"Literal\",\"start\":8,\"end\":9,\"value\":1,\"raw\":\"1\"}}]},{\"type\":\"ExpressionStatement\",\"start\":11,\"end\":12,\"expression\":{\"type\":\"Identifier\",\"start\":11,\"end\":12,\"name\":\"x\"}}",
+        ),
+        // A call, in another order of keys and with fields left out.
+        (
+            "{\"expression\":{\"arguments\":[{\"name\":\"\u{e9}\",\"type\":\"Identifier\"}],\"callee\":{\"name\":\"f\",\"type\":\"Identifier\",\"loc\":null,\"decorators\":[]},\"type\":\"CallExpression\"},\"directive\":null,\"type\":\"ExpressionStatement\"}",
+            "{\"type\":\"ExpressionStatement\",\"start\":0,\"end\":0,\"expression\":{\"type\":\"CallExpression\",\"start\":0,\"end\":0,\"callee\":{\"type\":\"Identifier\",\"start\":0,\"end\":0,\"name\":\"f\"},\"arguments\":[{\"type\":\"Identifier\",\"start\":0,\"end\":0,\"name\":\"\u{e9}\"}],\"optional\":false}}",
+        ),
+        (
+            "{\"type\":\"ExpressionStatement\",\"expression\":{\"type\":\"Identifier\",\"name\":\"$1\"},\"directive\":\"a\"}",
+            "{\"type\":\"ExpressionStatement\",\"start\":0,\"end\":0,\"expression\":{\"type\":\"Identifier\",\"start\":0,\"end\":0,\"name\":\"$1\"},\"directive\":\"a\"}",
+        ),
+        (
+            "{\"type\":\"VariableDeclaration\",\"kind\":\"var\",\"declarations\":[{\"type\":\"VariableDeclarator\",\"id\":{\"type\":\"Identifier\",\"name\":\"_\"}}]}",
+            "{\"type\":\"VariableDeclaration\",\"start\":0,\"end\":0,\"kind\":\"var\",\"declarations\":[{\"type\":\"VariableDeclarator\",\"start\":0,\"end\":0,\"id\":{\"type\":\"Identifier\",\"start\":0,\"end\":0,\"name\":\"_\"},\"init\":null}]}",
+        ),
+    ] {
+        assert_eq!(rt;
+            answer(alloc, body)?.as_str(),
+            whole(alloc, printed, "[]")?.as_str()
+        );
+    }
+    Ok(())
+}
+
+#[test]
+fn literals_are_read_and_printed(rt: HostRuntime) -> Result<(), Fail> {
+    let alloc = rt.alloc();
+    let path = "[[\"body\",0,\"expression\"]]";
+    for (fields, printed, fixes) in [
+        (
+            "\"value\":0,\"raw\":\"x\"",
+            "\"value\":0,\"raw\":\"x\"",
+            "[]",
+        ),
+        (
+            "\"value\":18446744073709551615",
+            "\"value\":18446744073709551615,\"raw\":null",
+            "[]",
+        ),
+        (
+            "\"value\":false,\"raw\":\"false\",\"regex\":null,\"bigint\":null",
+            "\"value\":false,\"raw\":\"false\"",
+            "[]",
+        ),
+        ("\"regex\":null", "\"value\":null,\"raw\":null", "[]"),
+        ("\"raw\":\"null\"", "\"value\":null,\"raw\":\"null\"", "[]"),
+        (
+            "\"value\":null,\"raw\":\"1.5\"",
+            "\"value\":null,\"raw\":\"1.5\"",
+            "[]",
+        ),
+        (
+            "\"raw\":\"/a/g\",\"value\":{},\"regex\":{\"flags\":\"g\",\"pattern\":\"a\"}",
+            "\"value\":null,\"raw\":\"/a/g\",\"regex\":{\"pattern\":\"a\",\"flags\":\"g\"}",
+            path,
+        ),
+        (
+            "\"bigint\":\"1\",\"raw\":\"1n\"",
+            "\"value\":null,\"raw\":\"1n\",\"bigint\":\"1\"",
+            path,
+        ),
+    ] {
+        let body = format!(in alloc;
+            "{{\"type\":\"ExpressionStatement\",\"expression\":{{\"type\":\"Literal\",{fields}}}}}"
+        )?;
+        let printed = format!(in alloc;
+            "{{\"type\":\"ExpressionStatement\",\"start\":0,\"end\":0,\"expression\":{{\"type\":\"Literal\",\"start\":0,\"end\":0,{printed}}}}}"
+        )?;
+        assert_eq!(rt;
+            answer(alloc, body.as_str())?.as_str(),
+            whole(alloc, printed.as_str(), fixes)?.as_str()
+        );
+    }
+    Ok(())
+}
+
+#[test]
+fn expressions_that_are_none(rt: HostRuntime) -> Result<(), Fail> {
+    let alloc = rt.alloc();
+    for expression in [
+        "null",
+        "{\"type\":\"Identifier\"}",
+        "{\"type\":\"Identifier\",\"name\":null}",
+        "{\"type\":\"Identifier\",\"name\":\"\"}",
+        "{\"type\":\"Identifier\",\"name\":\"a-b\"}",
+        "{\"type\":\"Identifier\",\"name\":\"0a\"}",
+        "{\"type\":\"Identifier\",\"name\":\"a\",\"loc\":{}}",
+        "{\"type\":\"CallExpression\",\"callee\":{\"type\":\"Identifier\",\"name\":\"f\"}}",
+        "{\"type\":\"CallExpression\",\"callee\":{\"type\":\"Identifier\",\"name\":\"f\"},\"arguments\":[null]}",
+        "{\"type\":\"VariableDeclaration\",\"kind\":\"let\",\"declarations\":[]}",
+        "{\"type\":\"ThisExpression\"}",
+        "{\"type\":\"Literal\",\"value\":1.5,\"raw\":\"1.5\"}",
+        "{\"type\":\"Literal\",\"value\":-1,\"raw\":\"-1\"}",
+        "{\"type\":\"Literal\",\"value\":18446744073709551616}",
+        "{\"type\":\"Literal\",\"value\":null,\"raw\":\"x\"}",
+        "{\"type\":\"Literal\",\"value\":{},\"raw\":\"/a/g\"}",
+        "{\"type\":\"Literal\",\"value\":{\"a\":1},\"regex\":{\"pattern\":\"a\",\"flags\":\"g\"}}",
+        "{\"type\":\"Literal\",\"value\":1,\"regex\":{\"pattern\":\"a\",\"flags\":\"g\"}}",
+        "{\"type\":\"Literal\",\"regex\":{\"pattern\":\"a\"}}",
+        "{\"type\":\"Literal\",\"regex\":{\"pattern\":\"a\",\"flags\":\"g\",\"raw\":null}}",
+        "{\"type\":\"Literal\",\"regex\":{\"pattern\":\"a\",\"flags\":null}}",
+        "{\"type\":\"Literal\",\"regex\":\"a\"}",
+        "{\"type\":\"Literal\",\"value\":1,\"bigint\":\"1\"}",
+        "{\"type\":\"Literal\",\"bigint\":1}",
+        // Strings are not taken so far.
+        "{\"type\":\"Literal\",\"value\":\"a\",\"raw\":\"'a'\"}",
+        "{\"type\":\"Literal\",\"value\":[97],\"raw\":\"'a'\"}",
+    ] {
+        let body = format!(in alloc;
+            "{{\"type\":\"ExpressionStatement\",\"expression\":{expression}}}"
+        )?;
+        assert_eq!(rt;
+            answer(alloc, body.as_str())?.as_str(),
+            "bad tree",
+            "of {expression}"
         );
     }
     Ok(())

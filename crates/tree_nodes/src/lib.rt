@@ -14,7 +14,7 @@ mod text;
 pub use kind::{KINDS, Kind};
 pub use node::{Field, FieldList, Node, NodeList};
 pub use rows::{row, row_named};
-pub use standing::is_placed;
+pub use standing::{is_placed, own_name_at};
 pub use table::{
     Class, Column, Declared, Group, Mark, Mode, Opens, Role, Row, Strict, Words, word_list,
 };

@@ -117,6 +117,13 @@ impl FieldList {
         FieldList { items: fields }
     }
 
+    /// The fields, in place of the list.
+    pub fn into_vec(self) -> Vec<Field>
+        ensures { parts_of result.items ≡ self }
+    {
+        self.items
+    }
+
     pub fn len(&self) -> usize
         ensures { result ≡ parts_len self.now }
     {
@@ -140,6 +147,13 @@ impl NodeList {
         ensures { result ≡ items_of items.items }
     {
         NodeList { items }
+    }
+
+    /// The nodes and holes, in place of the list.
+    pub fn into_vec(self) -> Vec<Option<Node>>
+        ensures { items_of result.items ≡ self }
+    {
+        self.items
     }
 
     pub fn len(&self) -> usize

@@ -349,8 +349,8 @@ fn own_name_in(field: &Field) -> &str
     }
 }
 
-// The name of the Identifier that the i-th field is, with a default or without.
-fn own_name_at(fields: &FieldList, i: u8) -> &str
+/// The name of the Identifier that the i-th field is, with a default or without; else the empty text.
+pub fn own_name_at(fields: &FieldList, i: u8) -> &str
     ensures { result.now ≡ spec.own_name (part fields.now i) }
 {
     match fields.get(i as usize) {

@@ -199,7 +199,7 @@ walk-blind (child k b e fields more) rows a s =
     ∙ ap (walk (blind more) (other_columns rows) (blinded a)) (node-blind k b fields here s (λ a' s'. walk-blind fields (each (row k).columns) a' s'))
     ∙ walk-blind more (other_columns rows) a (at_node k b fields here s (enter (row k) (hide k fields) here s))
 
-seen-blind : (t : Parts) → seen (blind t) ≡ seen t
+pub seen-blind : (t : Parts) → seen (blind t) ≡ seen t
 unfolding all_open
 seen-blind t = walk-blind t (all unlisted) before_all nothing_yet
 

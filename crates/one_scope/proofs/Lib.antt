@@ -1,0 +1,13 @@
+mod WalkInner
+mod WalkSteps
+mod WalkPlaces
+mod WalkFlat
+pub mod FlatLists
+pub mod FlatSites
+pub mod FlatFaults
+pub mod FlatBindings
+pub mod FlatKept
+pub mod FlatOwners
+pub mod FlatSlots
+pub mod FlatNames
+pub mod FlatTrees

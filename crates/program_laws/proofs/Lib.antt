@@ -1,0 +1,2 @@
+mod NamedOnce
+mod Programs

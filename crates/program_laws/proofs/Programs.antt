@@ -1,0 +1,25 @@
+-- Programs meet the premises of the laws on names.
+use Rattle.oxc_mangler.proofs.Rivals as rivals
+use Rattle.program_laws.proofs.NamedOnce.{tree_once}
+use Rattle.program_laws.specs.Laws.{NamesOfProgramsSeparate, NoRivalOfAProgramUsesFewer, ProgramsAreRooted, ProgramsKeepFunctionNamesApart, ProgramsNameFunctionsOnce}
+use Rattle.tree_core.proofs.ReadsBack.{shape_read, tree_fits}
+use Rattle.tree_core.specs.Values.{value_of}
+use Rattle.tree_nodes.specs.Tree.{alone}
+use Rattle.tree_places.proofs.TreesRooted as rooted
+use Rattle.tree_semantic.proofs.FunctionNames as function_names
+use Rattle.tree_semantic.proofs.Separate as separate
+
+pub programs_name_functions_once : ProgramsNameFunctionsOnce
+programs_name_functions_once t p = tree_once t (tree_fits (value_of t) t p.0) (shape_read (value_of t) t p.0).1
+
+pub programs_keep_function_names_apart : ProgramsKeepFunctionNamesApart
+programs_keep_function_names_apart t p = function_names.function_names_stand_apart (alone t) (programs_name_functions_once t p)
+
+pub programs_are_rooted : ProgramsAreRooted
+programs_are_rooted t p = rooted.placed_trees_are_rooted t (shape_read (value_of t) t p.0).1
+
+pub names_of_programs_separate : NamesOfProgramsSeparate
+names_of_programs_separate t p free b c ib ic live n = separate.names_separate (alone t) (programs_keep_function_names_apart t p) free b c ib ic live n
+
+pub no_rival_of_a_program_uses_fewer : NoRivalOfAProgramUsesFewer
+no_rival_of_a_program_uses_fewer t o w p r = rivals.no_rival_uses_fewer (alone t) o w (programs_keep_function_names_apart t p) r

@@ -1,0 +1,4 @@
+//! A program under new names, in place.
+#![tactic(auto)]
+
+mod walk;
