@@ -3,12 +3,11 @@ use Rattle.std.specs.Prelude.{◌≡◌, ℕ, true, false, List, Some, None, cod
 use Rattle.json_text.specs.Layout.{compact}
 use Rattle.oxc_estree.specs.Envelope.{envelope}
 use Rattle.serde_json.specs.Data.{Data}
-use Rattle.tree_core.specs.JsonOf.{json_of}
 use Rattle.tree_core.specs.Limits.{is_too_large}
-use Rattle.tree_core.specs.Reading.{tree_of}
 use Rattle.tree_nodes.specs.Tree.{Tree}
 use Rattle.tree_core.specs.Values.{meaning_of}
-use Rattle.mangle_tool.specs.Input.{IsNotJson, Parses, program_in}
+use Rattle.mangle_tool.specs.Input.{IsNotJson, Parses}
+use Rattle.mangle_tool.specs.Mangling.{IsFaulty, IsMangling, IsSound, tree_in}
 use Rattle.tree_core.specs.declared.read.ReadError.{ReadError}
 use Rattle.tree_core.specs.declared.read.ReadError.TheVariants as refusal
 use Rattle.mangle_tool.specs.declared.estree.MangleError.{MangleError}
@@ -16,32 +15,48 @@ use Rattle.mangle_tool.specs.declared.estree.MangleError.TheVariants.{NotJson, T
 use Rattle.mangle_tool.specs.declared.status.Status.{Status}
 use Rattle.mangle_tool.specs.declared.status.Status.TheVariants as status
 
--- the value is within the limits, and its program is a tree
+-- the value is within the limits, and its program is a tree without fault
 pub record IsValid (value : Data) : Type 0 where
   pub tree : Tree
   pub within : is_too_large value 0 ≡ false
-  pub is_tree : tree_of (json_of (program_in value)) ≡ Some tree
+  pub is_tree : tree_in value ≡ Some tree
+  pub sound : IsSound tree
 
--- the value is valid, and the text is that of its tree: the value of the tree in a compact layout beside the paths
+-- the value is valid, and the text is that of its tree mangled: the value of that tree in a compact layout beside the paths
 -- of its BigInt and RegExp literals
 pub record IsAnswerTo (value : Data) (text : List ℕ) : Type 0 where
   pub tree : Tree
   pub within : is_too_large value 0 ≡ false
-  pub is_tree : tree_of (json_of (program_in value)) ≡ Some tree
-  pub text_is : text ≡ envelope compact (meaning_of tree)
+  pub is_tree : tree_in value ≡ Some tree
+  pub mangled : Tree
+  pub mangles : IsMangling tree mangled
+  pub text_is : text ≡ envelope compact (meaning_of mangled)
 
 -- the value is within the limits, but its program is no tree
 pub record IsNoTree (value : Data) : Type 0 where
   pub within : is_too_large value 0 ≡ false
-  pub no_tree : tree_of (json_of (program_in value)) ≡ None
+  pub no_tree : tree_in value ≡ None
 
--- what an error says of a value; no tree that is taken has a scope fault, and memory may run out at any value
+-- the value is within the limits, and its program is a tree with a fault
+pub record HasBadScope (value : Data) : Type 0 where
+  pub tree : Tree
+  pub within : is_too_large value 0 ≡ false
+  pub is_tree : tree_in value ≡ Some tree
+  pub faulty : IsFaulty tree
+
+-- what an error says of a value; memory may run out at any value
 abbrev pub IsCauseFor : MangleError → Data → Type 0
 IsCauseFor NotJson value = ⊥
 IsCauseFor TooLarge value = is_too_large value 0 ≡ true
 IsCauseFor BadTree value = IsNoTree value
-IsCauseFor BadScope value = ⊥
+IsCauseFor BadScope value = HasBadScope value
 IsCauseFor Memory value = Unit {0}
+
+-- what an error says of a program that was read
+abbrev pub IsProgramCause : MangleError → Tree → Type 0
+IsProgramCause BadScope t = IsFaulty t
+IsProgramCause Memory t = Unit {0}
+IsProgramCause _ t = ⊥
 
 -- the input is JSON whose value is valid
 pub record IsValidInput (input : List ℕ) : Type 0 where

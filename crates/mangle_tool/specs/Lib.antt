@@ -1,6 +1,7 @@
 pub mod Answer
 pub mod Faults
 pub mod Input
+pub mod Mangling
 pub mod MemorySink
 pub mod MemorySource
 pub mod ReaderSource

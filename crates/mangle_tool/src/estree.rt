@@ -10,7 +10,10 @@ ghost use Rattle.mangle_tool.specs.declared.estree.MangleError.{MangleError};
 ghost use Rattle.mangle_tool.specs.Answer.{IsAnswer, IsAnswerTo, IsCauseFor, IsCauseOf, read_refusal};
 ghost use Rattle.mangle_tool.specs.Input as spec;
 ghost use Rattle.mangle_tool.specs.Input.{program_in};
+ghost use Rattle.mangle_tool.specs.Mangling.{tree_in};
 
+use crate::mangle::mangle_program;
+use one_scope::is_one_scope;
 use oxc_estree::{CompactFormatter, ConfigFixes, ESTreeSerializer};
 use serde_json::{Map, Value};
 use std::alloc::{AllocError, Global};
@@ -92,14 +95,29 @@ pub fn mangle_estree(alloc: Global, input: &[u8]) -> Result<String, MangleError>
 /// that isn't looked at, as an answer has them.
 ///
 /// `TooLarge` comes exactly where the whole value passes the limits, `BadTree` exactly where it is within
-/// them and its program is no tree; `NotJson` never; `Memory` may come at any value.
+/// them and its program is no tree that is taken, `BadScope` exactly where the scopes of that tree have a
+/// fault; `NotJson` never; `Memory` may come at any value.
 pub fn mangle_value(alloc: Global, value: &Value) -> Result<String, MangleError>
     ensures answer { IfOk result (λ text. IsAnswerTo (view value.now) (string_bytes text)) }
     ensures cause { IfErr result (λ e. IsCauseFor e (view value.now)) }
 {
-    let program = read_program(alloc, value)?;
+    let program = mangle_program(alloc, taken_program(alloc, value)?)?;
     let serializer = ESTreeSerializer::<ConfigFixes, CompactFormatter>::new(alloc, false, false)?;
     Ok(serializer.serialize_with_fixes(&program)?)
+}
+
+// The program that a value is or wraps, if all its nodes are of kinds that are mangled.
+fn taken_program(alloc: Global, value: &Value) -> Result<Program, ReadError>
+    ensures ok { IfOk result (λ p. tree_in (view value.now) ≡ Some p) }
+    ensures within { IfOk result (λ _. is_too_large (view value.now) 0 ≡ false) }
+    ensures cause { IfErr result (λ e. IsCauseFor (read_refusal e) (view value.now)) }
+{
+    let program = read_program(alloc, value)?;
+    if is_one_scope(program.root()) {
+        Ok(program)
+    } else {
+        Err(ReadError::BadTree)
+    }
 }
 
 // The tree of the program that a value is or wraps. The limits are those of the whole value.

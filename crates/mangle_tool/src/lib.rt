@@ -5,6 +5,7 @@
 pub mod adapters;
 pub mod estree;
 mod faults;
+mod mangle;
 pub mod memory;
 pub mod read_all;
 pub mod run;

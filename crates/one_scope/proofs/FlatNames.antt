@@ -175,7 +175,7 @@ module _ (o : Options) (ps : List Place) (flat : (p : Place) → In p ps → IsF
       (ap (λ n. map (weight ms bs) (count_from (length rest) n)) (let e : length (done ++ l ∷ []) ≡ length done + 1 = length-append done (l ∷ []) in let e' : suc (length done) ≡ length (done ++ l ∷ []) = omega (arith, e) in e')
       ∙ weights_same (done ++ l ∷ []) rest (append_assoc done (l ∷ []) rest ∙ all))
 
-  names_same : names_from o ms bs ≡ flat_slot_names o es
+  pub names_same : names_from o ms bs ≡ flat_slot_names o es
   unfolding all_open names_from
   names_same =
       ap (λ xs. slot_names xs (map (weight ms bs) (count_from (number_of_slots bs) 0))) free_same

@@ -3,17 +3,17 @@ use Rattle.std.specs.Prelude.{◌≡◌, [], ◌∷◌, map}
 use Rattle.std.proofs.Common.{ap, ◌∙◌}
 use Rattle.one_scope.proofs.FlatFaults.{all_declared, only_redeclared}
 use Rattle.one_scope.proofs.FlatKept.{member, members_named}
-use Rattle.one_scope.proofs.FlatNames.{given_same, names_from, none_private}
+use Rattle.one_scope.proofs.FlatNames.{given_same, names_same, names_from, none_private}
 use Rattle.one_scope.proofs.FlatOwners.{leaders}
 use Rattle.one_scope.proofs.FlatSlots.{groups_led, numbered, slots_led}
 use Rattle.one_scope.specs.Entries.{entry_of}
 use Rattle.one_scope.specs.Flat.{flat_name, flat_slot_names, slot_owners}
-use Rattle.one_scope.specs.Laws.{FlatFaults, FlatNames}
+use Rattle.one_scope.specs.Laws.{FlatFaults, FlatNames, FlatSlotNames}
 use Rattle.one_scope.specs.OneScope.{IsFlat, IsFlatTree}
 use Rattle.one_scope.specs.Open.{all_open}
 use Rattle.oxc_mangler.proofs.Given.{named-site, places_rise}
 use Rattle.oxc_mangler.proofs.Runs.{of-each}
-use Rattle.oxc_mangler.specs.GivenNames.{given_names, new_name}
+use Rattle.oxc_mangler.specs.GivenNames.{given_names, names_of_slots, new_name}
 use Rattle.oxc_mangler.specs.Groups.{groups, members, members_of}
 use Rattle.oxc_mangler.specs.Options.{Options}
 use Rattle.oxc_mangler.specs.PrivateNumbers.{with_private}
@@ -49,6 +49,17 @@ module _ (o : Options) (t : Parts) (f : IsFlatTree t) where
       ap (λ ms. map (new_name (slots_of o t) (names_from o ms (slots_of o t))) ms) flat_members
       ∙ ap (λ bs. map (new_name bs (names_from o (map (member o (places t)) (places t)) bs)) (map (member o (places t)) (places t))) flat_slots_of
       ∙ given_same o (places t) (flat_places t f) (places_rise t)
+
+  flat_slot_named : names_of_slots o t ≡ flat_slot_names o (map entry_of (places t))
+  unfolding all_open names_from
+  flat_slot_named =
+      ap (λ ms. names_from o ms (slots_of o t)) flat_members
+      ∙ ap (names_from o (map (member o (places t)) (places t))) flat_slots_of
+      ∙ names_same o (places t) (flat_places t f) (places_rise t)
+
+pub flat_slots_named : FlatSlotNames
+unfolding all_open
+flat_slots_named o t f = flat_slot_named o t f
 
 pub flat_names : FlatNames
 unfolding all_open

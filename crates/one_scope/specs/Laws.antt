@@ -1,8 +1,9 @@
 -- The laws on trees whose only scope is the Program.
 use Rattle.std.specs.Prelude.{◌≡◌, true, false}
 use Rattle.one_scope.specs.Entries.{entries}
-use Rattle.one_scope.specs.Flat.{flat_new_names, has_flat_fault}
+use Rattle.one_scope.specs.Flat.{flat_new_names, flat_slot_names, has_flat_fault}
 use Rattle.one_scope.specs.OneScope.{IsFlatTree, is_one_scope}
+use Rattle.oxc_mangler.specs.GivenNames.{names_of_slots}
 use Rattle.oxc_mangler.specs.Options.{Options}
 use Rattle.oxc_mangler.specs.PrivateNumbers.{new_names}
 use Rattle.tree_nodes.specs.Standing.{is_placed}
@@ -21,3 +22,7 @@ FlatFaults = (t : Parts) → IsFlatTree t → (has_fault same_name (places t) �
 
 abbrev pub FlatNames : Type 0
 FlatNames = (o : Options) (t : Parts) → IsFlatTree t → new_names o t ≡ flat_new_names o (entries t)
+
+-- and so are the names of its slots
+abbrev pub FlatSlotNames : Type 0
+FlatSlotNames = (o : Options) (t : Parts) → IsFlatTree t → names_of_slots o t ≡ flat_slot_names o (entries t)

@@ -20,6 +20,7 @@ pub mod Totals
 pub mod Spelled
 pub mod Shortest
 pub mod Characters
+pub mod Identifiers
 pub mod Guarded
 pub mod NextNames
 pub mod FirstFree

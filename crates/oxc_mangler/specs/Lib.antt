@@ -13,6 +13,7 @@ pub mod PrivateNumbers
 pub mod Mangled
 pub mod Laws
 pub mod NameOrder
+pub mod NameCharacters
 pub mod SlotNames
 pub mod PrivateLaws
 pub mod MangledLaws

@@ -1,6 +1,7 @@
 //! The laws on slots. The functions here do nothing: each has a law as its contract.
 
 ghost use Rattle.oxc_mangler.specs.MangledLaws.{NewNamesAreSound, NewNamesMangle};
+ghost use Rattle.oxc_mangler.specs.NameCharacters.{ShortNamesAreIdentifiers};
 ghost use Rattle.oxc_mangler.specs.NameOrder.{LengthsNeverFall, ShortIsOneToOne};
 ghost use Rattle.oxc_mangler.specs.PrivateLaws.{PrivateNamesKeepBindings, PrivateNumbersDiffer};
 ghost use Rattle.oxc_mangler.specs.SlotNames.{
@@ -47,6 +48,11 @@ pub fn short_is_one_to_one()
 /// The law that lengths of short names never fall as the number grows.
 pub fn lengths_never_fall()
     ensures { LengthsNeverFall }
+{}
+
+/// The law that every short name is an identifier name.
+pub fn short_names_are_identifiers()
+    ensures { ShortNamesAreIdentifiers }
 {}
 
 /// The law on names that are given by slot: where a tree's slots have different names, none of them

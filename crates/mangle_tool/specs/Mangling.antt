@@ -1,0 +1,38 @@
+-- What a run does to the program that it read.
+use Rattle.std.specs.Prelude.{◌≡◌, false, [], None, Option, Some, option_and_then, if◌then◌else◌, IsFalse, IsTrue}
+use Rattle.one_scope.specs.OneScope.{is_one_scope}
+use Rattle.oxc_mangler.specs.Mangled.{IsMangled}
+use Rattle.oxc_mangler.specs.Options.{Options, renames_root}
+use Rattle.oxc_mangler.specs.PrivateNumbers.{new_names}
+use Rattle.serde_json.specs.Data.{Data}
+use Rattle.tree_core.specs.JsonOf.{json_of}
+use Rattle.tree_core.specs.Program.{IsProgram}
+use Rattle.tree_core.specs.Reading.{tree_of}
+use Rattle.tree_nodes.specs.Tree.{Tree, alone}
+use Rattle.tree_places.specs.Places.{names, places}
+use Rattle.tree_semantic.specs.Bindings.{same_name}
+use Rattle.tree_semantic.specs.Faults.{has_fault}
+use Rattle.mangle_tool.specs.Input.{program_in}
+
+-- the tree that a value is or wraps, if all its nodes are of kinds that are mangled
+abbrev pub tree_in : Data → Option Tree
+tree_in value = option_and_then (λ t. if is_one_scope (alone t) then Some t else None) (tree_of (json_of (program_in value)))
+
+-- a run gives all bindings new names, those of a script's root aside, and keeps no name of a function or class for its own sake
+abbrev pub usual_options : Tree → Options
+usual_options t = record { top_level = renames_root None (alone t); keep_functions = false; keep_classes = false; reserved = []; readable = false }
+
+-- two declarations clash
+abbrev pub IsFaulty : Tree → Type 0
+IsFaulty t = IsTrue (has_fault same_name (places (alone t)))
+
+abbrev pub IsSound : Tree → Type 0
+IsSound t = IsFalse (has_fault same_name (places (alone t)))
+
+-- u is the program that t becomes: t mangled, under the names that are given, a program again and without fault
+pub record IsMangling (t u : Tree) : Type 0 where
+  pub sound : IsSound t
+  pub mangled : IsMangled (alone t) (usual_options t) (alone u)
+  pub names : names (alone u) ≡ new_names (usual_options t) (alone t)
+  pub program : IsProgram u
+  pub sound_again : IsSound u
