@@ -1,2 +1,3 @@
+pub mod Mangles
 pub mod Told
 pub mod Wrapped

@@ -1,7 +1,7 @@
-mod WalkInner
-mod WalkSteps
-mod WalkPlaces
-mod WalkFlat
+pub mod WalkInner
+pub mod WalkSteps
+pub mod WalkPlaces
+pub mod WalkFlat
 pub mod FlatLists
 pub mod FlatSites
 pub mod FlatFaults

@@ -1,0 +1,153 @@
+-- The program that is renamed by the names of its one scope is the mangled one.
+use Rattle.std.specs.Prelude.{◌≡◌, ◌<◌, ◌≤◌, ℕ, zero, suc, ◌+◌, Bool, true, false, not, ◌&&◌, List, [], ◌∷◌, map, filter, length, get_or, slice_get, Option, Some, None, if◌then◌else◌}
+use Rattle.std.specs.List.{AllByRecursion, Contains, position_from}
+use Rattle.std.proofs.Common.{refl, sym, ap, ◌∙◌, subst, arith, true≢false}
+use Rattle.std.proofs.lemmas.List.{length-map}
+use Rattle.std.proofs.lemmas.Option.{slice_get-get_or}
+use Rattle.one_scope.proofs.FlatTrees as flat_trees
+use Rattle.one_scope.proofs.FlatSites.{and_no}
+use Rattle.one_scope.proofs.WalkFlat as walk_flat
+use Rattle.one_scope.specs.Entries.{Entry, entries, entry_of}
+use Rattle.one_scope.specs.Flat.{flat_free_names, flat_name, flat_new_names, flat_slot, flat_slot_names, flat_slots, flat_weight, has_flat_fault, slot_owners}
+use Rattle.one_scope.specs.OneScope.{IsFlat, IsFlatTree, is_flat_role, is_one_scope}
+use Rattle.one_scope.specs.Open.{all_open}
+use Rattle.oxc_mangler.proofs.Bounds.{names_are_bounded}
+use Rattle.oxc_mangler.proofs.Identifiers.{short_names_are_identifiers}
+use Rattle.oxc_mangler.proofs.Fewest.{count-length}
+use Rattle.oxc_mangler.proofs.Mangling as mangling
+use Rattle.oxc_mangler.specs.GivenNames.{count_from, is_before, names_of_slots, slot_name}
+use Rattle.oxc_mangler.specs.MangledLaws.{HasNewNames}
+use Rattle.oxc_mangler.specs.Options.{Options}
+use Rattle.oxc_mangler.specs.PrivateNumbers.{new_names}
+use Rattle.oxc_mangler.specs.ShortNames.{candidate}
+use Rattle.syntax_lex.specs.Identifier.{is_identifier_name}
+use Rattle.mangle_tool.specs.Mangling.{IsMangling, IsSound, usual_options}
+use Rattle.tree_core.proofs.ReadsBack.{shape_read}
+use Rattle.tree_core.specs.Program.{IsProgram}
+use Rattle.tree_core.specs.Values.{value_of}
+use Rattle.tree_nodes.specs.Standing.{is_placed}
+use Rattle.tree_nodes.specs.Tree.{Parts, Text, Tree, alone}
+use Rattle.tree_places.proofs.Numbers.{one_name_each}
+use Rattle.tree_places.proofs.TreesRooted as rooted
+use Rattle.tree_places.specs.Places.{Place, Site, named_by, names, places, sites}
+use Rattle.tree_places.specs.Renaming.{IsRenamed, is_plain, plain_names}
+use Rattle.tree_rename.specs.Chosen.{chosen, given_name, or_own}
+use Rattle.tree_nodes.specs.declared.table.Role.{Role}
+use Rattle.tree_nodes.specs.declared.table.Role.TheVariants.{MemberKey, Plain}
+use Rattle.tree_semantic.proofs.Lists.{In, contains_from_in}
+use Rattle.tree_semantic.specs.Bindings.{same_name}
+use Rattle.tree_semantic.specs.Faults.{has_fault}
+
+-- a position lies in the list
+position_within : {X : Type 0} (test : X → Bool) (i : ℕ) (xs : List X) (k : ℕ) → position_from test i xs ≡ Some k → k < i + length xs
+position_within test i [] k h = absurd (cc)
+position_within {X} test i (x ∷ xs) k h = go (test x) h (position_within test (i + 1) xs k)
+  where
+    go : (b : Bool) → (if b then Some i else position_from test (i + 1) xs) ≡ Some k → (position_from test (i + 1) xs ≡ Some k → k < (i + 1) + length xs) → k < i + length (x ∷ xs)
+    go true e later = let same : i ≡ k = cc in omega (arith, same)
+    go false e later = let less : k < (i + 1) + length xs = later e in omega (arith, less)
+
+slot_within : (owners : List Text) (x : Text) (k : ℕ) → flat_slot owners x ≡ Some k → k < length owners
+unfolding all_open
+slot_within owners x k h = let less : k < 0 + length owners = position_within (λ y. same_name y x) 0 owners k h in omega (arith, less)
+
+-- the names that the slots choose are those of the plain definition
+chosen_flat : (owners given : List Text) → length given ≡ length owners → (es : List Entry)
+    → chosen given (map (λ e. flat_slot owners e.name) es) (map (λ e. e.name) es) ≡ map (flat_name owners given) es
+unfolding all_open chosen given_name or_own
+chosen_flat owners given long [] = refl
+chosen_flat owners given long (e ∷ es) = go (flat_slot owners e.name) refl (chosen_flat owners given long es)
+  where
+    go : (o : Option ℕ) → flat_slot owners e.name ≡ o → chosen given (map (λ e. flat_slot owners e.name) es) (map (λ e. e.name) es) ≡ map (flat_name owners given) es
+        → chosen given (flat_slot owners e.name ∷ map (λ e. flat_slot owners e.name) es) (e.name ∷ map (λ e. e.name) es) ≡ flat_name owners given e ∷ map (flat_name owners given) es
+    go None is rest = cc
+    go (Some k) is rest =
+        let less : k < length given = subst (λ n. k < n) (sym long) (slot_within owners e.name k is) in
+        let found : slice_get given k ≡ Some (get_or given k []) = slice_get-get_or given k [] less in
+        cc
+
+-- the names of a tree are those of its entries
+named_as : (ss : List Site) (xs : List Text) → length xs ≡ length ss → map (λ (e : Entry). e.name) (map entry_of (named_by ss xs)) ≡ xs
+unfolding all_open
+named_as [] [] h = refl
+named_as [] (x ∷ xs) h = absurd (omega (arith, h))
+named_as (s ∷ ss) [] h = absurd (omega (arith, h))
+named_as (s ∷ ss) (x ∷ xs) h = ap (λ ys. x ∷ ys) (named_as ss xs (omega (arith, h)))
+
+entries_named : (t : Parts) → map (λ (e : Entry). e.name) (entries t) ≡ names t
+unfolding all_open
+entries_named t = named_as (sites t) (names t) (one_name_each t)
+
+names_long : (o : Options) (es : List Entry) → length (flat_slot_names o es) ≡ length (slot_owners o es)
+unfolding all_open
+names_long o es =
+    let owners : List Text = slot_owners o es in
+    let weights : List ℕ = map (flat_weight es) owners in
+    length-map (count_from (length weights) 0) (slot_name (flat_free_names o es owners) (map (λ r. length (get_or (flat_free_names o es owners) r [])) (map (λ k. length (filter (λ j. is_before weights j k) (count_from (length weights) 0))) (count_from (length weights) 0))) (count_from (length weights) 0))
+    ∙ count-length (length weights) 0 ∙ length-map owners (flat_weight es)
+
+not_plain : (s : Site) → IsFlat s → is_plain s ≡ false
+unfolding all_open
+not_plain s f = role s.setting.role f.role
+  where
+    role : (r : Role) → is_flat_role r ≡ true → (not s.private && elim r as (λ x. Bool) [ Plain ↦ true | MemberKey ↦ true | _ ↦ false ]) ≡ false
+    role Plain h = absurd (true≢false (sym h))
+    role MemberKey h = absurd (true≢false (sym h))
+    role _ h = and_no (not s.private)
+
+no_plain : (ss : List Site) → AllByRecursion IsFlat ss → (xs : List Text) → plain_names ss xs ≡ []
+unfolding all_open
+no_plain [] all xs = none xs
+  where
+    none : (ys : List Text) → plain_names [] ys ≡ []
+    none [] = refl
+    none (y ∷ ys) = refl
+no_plain (s ∷ ss) all [] = refl
+no_plain (s ∷ ss) all (x ∷ xs) = ap (λ b. if b then x ∷ plain_names ss xs else plain_names ss xs) (not_plain s all.0) ∙ no_plain ss all.1 xs
+
+module _ (t : Tree) (program : IsProgram t) (one : is_one_scope (alone t) ≡ true) where
+  placed : is_placed t ≡ true
+  placed = (shape_read (value_of t) t program.0).1
+
+  flat : IsFlatTree (alone t)
+  flat = walk_flat.one_scope_is_flat t placed one
+
+  pub fault_told : has_fault same_name (places (alone t)) ≡ has_flat_fault (entries (alone t))
+  fault_told = (flat_trees.flat_faults (alone t) flat).0
+
+  -- the names that are chosen
+  given_told : (o : Options) → length (flat_slot_names o (entries (alone t))) ≡ length (slot_owners o (entries (alone t)))
+      → chosen (flat_slot_names o (entries (alone t))) (flat_slots o (entries (alone t))) (names (alone t)) ≡ new_names o (alone t)
+  unfolding flat_slots flat_new_names
+  given_told o long =
+      ap (chosen (flat_slot_names o (entries (alone t))) (flat_slots o (entries (alone t)))) (sym (entries_named (alone t)))
+      ∙ chosen_flat (slot_owners o (entries (alone t))) (flat_slot_names o (entries (alone t))) long (entries (alone t))
+      ∙ sym (flat_trees.flat_names o (alone t) flat)
+
+  -- a tree under these names is what a sound program becomes
+  pub mangles : (u : Tree) → has_flat_fault (entries (alone t)) ≡ false → IsRenamed (alone t) (alone u) → IsProgram u
+      → names (alone u) ≡ chosen (flat_slot_names (usual_options t) (entries (alone t))) (flat_slots (usual_options t) (entries (alone t))) (names (alone t)) → IsMangling t u
+  mangles u sound renamed again named =
+      let new : names (alone u) ≡ new_names (usual_options t) (alone t) = named ∙ given_told (usual_options t) (names_long (usual_options t) (entries (alone t))) in
+      let has : HasNewNames (usual_options t) (alone t) (alone u) = record { rooted = rooted.placed_trees_are_rooted t placed; renamed = renamed; names = new } in
+      let old_sound : IsSound t = fault_told ∙ sound in
+      record {
+        sound = old_sound;
+        mangled = mangling.is_mangled (usual_options t) (alone t) (alone u) has (flat_trees.flat_faults (alone t) flat).1;
+        names = new;
+        program = again;
+        sound_again = mangling.is_sound (usual_options t) (alone t) (alone u) has old_sound;
+      }
+
+  -- each name that is given is an identifier name
+  pub given_identifiers : (x : Text) → In x (flat_slot_names (usual_options t) (entries (alone t))) → is_identifier_name x ≡ true
+  unfolding candidate
+  given_identifiers x i =
+      let o : Options = usual_options t in
+      let c : Contains (names_of_slots o (alone t)) x = contains_from_in (names_of_slots o (alone t)) x (subst (In x) (sym (flat_trees.flat_slots_named o (alone t) flat)) i) in
+      let n = names_are_bounded o (alone t) x c in
+      ap is_identifier_name n.1 ∙ short_names_are_identifiers n.0
+
+  -- no place has a plain name
+  pub none_plain : (xs : List Text) → plain_names (sites (alone t)) xs ≡ []
+  none_plain xs = no_plain (sites (alone t)) flat.flat xs
