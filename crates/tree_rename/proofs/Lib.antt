@@ -5,3 +5,4 @@ pub mod Alike
 pub mod Same
 pub mod Names
 pub mod Marks
+pub mod Plain
