@@ -18,7 +18,7 @@ use Rattle.tree_nodes.specs.declared.table.Role.{Role}
 use Rattle.tree_nodes.specs.declared.table.Strict.{Strict}
 use Rattle.tree_nodes.specs.declared.table.Strict.TheVariants.{Always, AsOutside, ByBlock, ByList}
 
-part-blind : (xs : Parts) (i : ℕ) → part (blind xs) i ≡ blind (part xs i)
+pub part-blind : (xs : Parts) (i : ℕ) → part (blind xs) i ≡ blind (part xs i)
 unfolding all_open
 part-blind done i = refl
 part-blind (atom a more) zero = refl
@@ -28,7 +28,7 @@ part-blind (many items more) (suc i) = part-blind more i
 part-blind (child k s e fields more) zero = refl
 part-blind (child k s e fields more) (suc i) = part-blind more i
 
-flag-blind : (x : Parts) → flag_of (blind x) ≡ flag_of x
+pub flag-blind : (x : Parts) → flag_of (blind x) ≡ flag_of x
 unfolding all_open
 flag-blind (atom (flag b) more) = refl
 flag-blind _ = refl
@@ -38,20 +38,20 @@ unfolding all_open
 word-blind (atom (word n) more) = refl
 word-blind _ = refl
 
-blank-blind : (x : Parts) → is_empty (blind x) ≡ is_empty x
+pub blank-blind : (x : Parts) → is_empty (blind x) ≡ is_empty x
 unfolding all_open
 blank-blind (atom empty more) = refl
 blank-blind _ = refl
 
-flag_at : (xs : Parts) (i : ℕ) → flag_of (part (blind xs) i) ≡ flag_of (part xs i)
+pub flag_at : (xs : Parts) (i : ℕ) → flag_of (part (blind xs) i) ≡ flag_of (part xs i)
 unfolding all_open
 flag_at xs i = ap flag_of (part-blind xs i) ∙ flag-blind (part xs i)
 
-word_at : (xs : Parts) (i : ℕ) → word_of (part (blind xs) i) ≡ word_of (part xs i)
+pub word_at : (xs : Parts) (i : ℕ) → word_of (part (blind xs) i) ≡ word_of (part xs i)
 unfolding all_open
 word_at xs i = ap word_of (part-blind xs i) ∙ word-blind (part xs i)
 
-blank_at : (xs : Parts) (i : ℕ) → is_empty (part (blind xs) i) ≡ is_empty (part xs i)
+pub blank_at : (xs : Parts) (i : ℕ) → is_empty (part (blind xs) i) ≡ is_empty (part xs i)
 unfolding all_open
 blank_at xs i = ap is_empty (part-blind xs i) ∙ blank-blind (part xs i)
 
@@ -97,7 +97,7 @@ strict-blind Always b xs = refl
 strict-blind (ByList i j) b xs = rw (word_at xs i, part-blind xs j, items-blind (part xs j), directs-blind (list_items (part xs j)))
 strict-blind (ByBlock i) b xs = rw (part-blind xs i, block-blind (part xs i), directs-blind (block_items (part xs i)))
 
-role-blind : (m : Mode) (own : Role) (xs : Parts) → role_at m own (blind xs) ≡ role_at m own xs
+pub role-blind : (m : Mode) (own : Role) (xs : Parts) → role_at m own (blind xs) ≡ role_at m own xs
 unfolding all_open
 role-blind (Gives r) own xs = refl
 role-blind Same own xs = refl

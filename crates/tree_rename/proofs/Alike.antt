@@ -12,12 +12,12 @@ use Rattle.tree_rename.specs.Renamed.{after, count, finished, inner, named, off_
 -- the fields of a node keep their form
 pub renamed_text : (given : List Text) (cs : List (Option ℕ)) (fields : Parts) → HasText fields → HasText (renamed given cs fields)
 unfolding renamed
-renamed_text given cs (atom (text x) more) h = tt
+renamed_text given cs (atom (text x) done) h = tt
 renamed_text given cs _ h = absurd h
 
 pub renamed_pair : (given : List Text) (cs : List (Option ℕ)) (fields : Parts) → HasPair fields → HasPair (renamed given cs fields)
 unfolding renamed
-renamed_pair given cs (atom kind (child k s e key (child k' s' e' value (atom method (atom (flag mark) more))))) h = tt
+renamed_pair given cs (atom kind (child k s e key (child k' s' e' value (atom method (atom (flag mark) (atom computed done)))))) h = tt
 renamed_pair given cs _ h = absurd h
 
 pub renamed_formed : (given : List Text) (cs : List (Option ℕ)) (k : Kind) (fields : Parts) → IsFormed k fields
@@ -34,7 +34,7 @@ named_blind name _ = refl
 
 off_blind : (fields : Parts) → HasPair fields → unmarked (blind (off_at 4 fields)) ≡ unmarked (blind fields)
 unfolding blind off_at unmarked
-off_blind (atom kind (child k s e key (child k' s' e' value (atom method (atom (flag mark) more))))) h = refl
+off_blind (atom kind (child k s e key (child k' s' e' value (atom method (atom (flag mark) (atom computed done)))))) h = refl
 off_blind _ h = absurd h
 
 settled_blind : (fields : Parts) → HasPair fields → unmarked (blind (settled fields)) ≡ unmarked (blind fields)

@@ -5,3 +5,11 @@ pub mod Alike
 pub mod Same
 pub mod Names
 pub mod Marks
+pub mod Plain
+pub mod Seen
+pub mod Named
+pub mod FormedFits
+pub mod Other
+pub mod FitsAlike
+pub mod StandsAlike
+pub mod Programs

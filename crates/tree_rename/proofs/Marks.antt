@@ -12,13 +12,13 @@ use Rattle.tree_rename.proofs.Alike.{renamed_pair}
 use Rattle.tree_rename.proofs.Same.{agreements_same, marks_same}
 
 -- the marks in a node with these fields, and the agreements
-abbrev own_marks : Bool → Parts → List Bool
+abbrev pub own_marks : Bool → Parts → List Bool
 own_marks property fields = if property then flag_of (part fields 4) ∷ marks fields else marks fields
 
-abbrev agrees : Parts → Bool
+abbrev pub agrees : Parts → Bool
 agrees fields = bytes_eq (own_name (part fields 1)) (own_name (part fields 2))
 
-abbrev own_agreements : Bool → Parts → List Bool
+abbrev pub own_agreements : Bool → Parts → List Bool
 own_agreements property fields = if property then agrees fields ∷ agreements fields else agreements fields
 
 -- ---- as many marks as agreements
@@ -45,7 +45,7 @@ same_length given cs (child k s e fields more) =
     (same_length given (after k fields cs) more)
     ∙ sym (length-append (own_agreements (is_property k) own) (agreements rest))
 
-both-append : (a b c d : List Bool) → length a ≡ length c → both (a ++ b) (c ++ d) ≡ both a c ++ both b d
+pub both-append : (a b c d : List Bool) → length a ≡ length c → both (a ++ b) (c ++ d) ≡ both a c ++ both b d
 unfolding both
 both-append [] b [] d e = refl
 both-append [] b (y ∷ c) d e = absurd (cc)
@@ -64,7 +64,7 @@ flag_on false = refl
 
 off_agrees : (fields : Parts) → HasPair fields → (flag_of (part (off_at 4 fields) 4) ≡ false) × (agrees (off_at 4 fields) ≡ agrees fields)
 unfolding off_at
-off_agrees (atom kind (child k s e key (child k' s' e' value (atom method (atom (flag mark) more))))) h = (refl, refl)
+off_agrees (atom kind (child k s e key (child k' s' e' value (atom method (atom (flag mark) (atom computed done)))))) h = (refl, refl)
 off_agrees _ h = absurd h
 
 -- the mark that is settled
@@ -82,7 +82,7 @@ settled_mark fields h = by_test (agrees fields) refl
 flag_renamed : (given : List Text) (cs : List (Option ℕ)) (fields : Parts) → HasPair fields
     → flag_of (part (renamed given cs fields) 4) ≡ flag_of (part fields 4)
 unfolding renamed
-flag_renamed given cs (atom kind (child k s e key (child k' s' e' value (atom method (atom (flag mark) more))))) h = refl
+flag_renamed given cs (atom kind (child k s e key (child k' s' e' value (atom method (atom (flag mark) (atom computed done)))))) h = refl
 flag_renamed given cs _ h = absurd h
 
 -- ---- a node

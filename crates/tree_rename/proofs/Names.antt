@@ -19,7 +19,7 @@ place_kind PrivateIdentifier = refl
 place_kind _ = refl
 
 -- the names in a node with these fields
-abbrev own_names : Bool → Parts → List Text
+abbrev pub own_names : Bool → Parts → List Text
 own_names place fields = if place then text_of fields ∷ names fields else names fields
 
 -- ---- as many names as places
@@ -55,13 +55,13 @@ chosen-append given cs (x ∷ xs) ys =
 
 text_named : (name : Option Text) (fields : Parts) → HasText fields → text_of (named name fields) ≡ or_own name (text_of fields)
 unfolding named
-text_named name (atom (text x) more) h = refl
+text_named name (atom (text x) done) h = refl
 text_named name _ h = absurd h
 
 text_renamed : (given : List Text) (cs : List (Option ℕ)) (fields : Parts) → HasText fields
     → (text_of (renamed given cs fields) ≡ text_of fields) × HasText (renamed given cs fields)
 unfolding renamed
-text_renamed given cs (atom (text x) more) h = (refl, tt)
+text_renamed given cs (atom (text x) done) h = (refl, tt)
 text_renamed given cs _ h = absurd h
 
 -- the name of a place

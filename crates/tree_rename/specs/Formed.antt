@@ -4,14 +4,14 @@ use Rattle.tree_nodes.specs.Tree.{Parts, atom, child, done, flag, many, text}
 use Rattle.tree_nodes.specs.declared.kind.Kind.{Kind}
 use Rattle.tree_nodes.specs.declared.kind.Kind.TheVariants.{Identifier, PrivateIdentifier, Property}
 
--- a name, and more
+-- a name alone
 abbrev pub HasText : Parts → Type 0
-HasText (atom (text x) more) = ⊤
+HasText (atom (text x) done) = ⊤
 HasText _ = ⊥
 
--- a word, key and value, two flags, of which the second is the shorthand mark, and more
+-- a word, key and value, and three fields more, of which the second is the shorthand mark
 abbrev pub HasPair : Parts → Type 0
-HasPair (atom kind (child k s e key (child k' s' e' value (atom method (atom (flag mark) more))))) = ⊤
+HasPair (atom kind (child k s e key (child k' s' e' value (atom method (atom (flag mark) (atom computed done)))))) = ⊤
 HasPair _ = ⊥
 
 abbrev pub IsFormed : Kind → Parts → Type 0

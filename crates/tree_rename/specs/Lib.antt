@@ -1,3 +1,4 @@
 pub mod Chosen
 pub mod Renamed
 pub mod Formed
+pub mod Laws

@@ -114,7 +114,7 @@ fn finish(
 }
 
 #[cycle(rename)]
-pub fn rename_node<'c>(
+pub(crate) fn rename_node<'c>(
     alloc: Global,
     node: &mut Node,
     names: &[String],

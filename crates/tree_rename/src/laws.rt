@@ -1,0 +1,8 @@
+//! What a renamed program is. The function here does nothing: it has a law as its contract.
+
+ghost use Rattle.tree_rename.specs.Laws.{RenamedProgramsArePrograms};
+
+/// The law that a program renamed is a program, if its names are identifier names.
+pub fn renamed_programs_are_programs()
+    ensures { RenamedProgramsArePrograms }
+{}
