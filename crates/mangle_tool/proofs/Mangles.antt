@@ -1,8 +1,8 @@
 -- The program that is renamed by the names of its one scope is the mangled one.
-use Rattle.std.specs.Prelude.{◌≡◌, ◌<◌, ◌≤◌, ℕ, zero, suc, ◌+◌, Bool, true, false, not, ◌&&◌, List, [], ◌∷◌, map, filter, length, get_or, slice_get, Option, Some, None, if◌then◌else◌}
+use Rattle.std.specs.Prelude.{◌≡◌, ◌<◌, ◌≤◌, ℕ, zero, suc, ◌+◌, ◌^◌, Bool, true, false, not, ◌&&◌, List, [], ◌∷◌, ◌++◌, map, filter, length, get_or, slice_get, Option, Some, None, if◌then◌else◌}
 use Rattle.std.specs.List.{AllByRecursion, Contains, position_from}
 use Rattle.std.proofs.Common.{refl, sym, ap, ◌∙◌, subst, arith, true≢false}
-use Rattle.std.proofs.lemmas.List.{length-map}
+use Rattle.std.proofs.lemmas.List.{length-append, length-map}
 use Rattle.std.proofs.lemmas.Option.{slice_get-get_or}
 use Rattle.one_scope.proofs.FlatTrees as flat_trees
 use Rattle.one_scope.proofs.FlatSites.{and_no}
@@ -23,13 +23,15 @@ use Rattle.oxc_mangler.specs.ShortNames.{candidate}
 use Rattle.syntax_lex.specs.Identifier.{is_identifier_name}
 use Rattle.mangle_tool.specs.Mangling.{IsMangling, IsSound, usual_options}
 use Rattle.tree_core.proofs.ReadsBack.{shape_read}
+use Rattle.tree_core.specs.NodeCount.{nodes_in}
 use Rattle.tree_core.specs.Program.{IsProgram}
 use Rattle.tree_core.specs.Values.{value_of}
 use Rattle.tree_nodes.specs.Standing.{is_placed}
-use Rattle.tree_nodes.specs.Tree.{Parts, Text, Tree, alone}
+use Rattle.tree_nodes.specs.Table.{row}
+use Rattle.tree_nodes.specs.Tree.{Parts, Text, Tree, alone, atom, child, done, many, text_of}
 use Rattle.tree_places.proofs.Numbers.{one_name_each}
 use Rattle.tree_places.proofs.TreesRooted as rooted
-use Rattle.tree_places.specs.Places.{Place, Site, named_by, names, places, sites}
+use Rattle.tree_places.specs.Places.{Site, is_place, named_by, names, places, sites}
 use Rattle.tree_places.specs.Renaming.{IsRenamed, is_plain, plain_names}
 use Rattle.tree_rename.specs.Chosen.{chosen, given_name, or_own}
 use Rattle.tree_nodes.specs.declared.table.Role.{Role}
@@ -78,6 +80,23 @@ entries_named : (t : Parts) → map (λ (e : Entry). e.name) (entries t) ≡ nam
 unfolding all_open
 entries_named t = named_as (sites t) (names t) (one_name_each t)
 
+-- no more places than nodes
+names_most : (t : Parts) → length (names t) ≤ nodes_in t
+unfolding names
+names_most done = omega arith
+names_most (atom x more) = names_most more
+names_most (many items more) =
+    let a : length (names items) ≤ nodes_in items = names_most items in
+    let b : length (names more) ≤ nodes_in more = names_most more in
+    let c : length (names items ++ names more) ≡ length (names items) + length (names more) = length-append (names items) (names more) in
+    omega (arith, a, b, c)
+names_most (child k s e fields more) = go (is_place (row k).opens) (names_most fields) (names_most more)
+  where
+    go : (b : Bool) → length (names fields) ≤ nodes_in fields → length (names more) ≤ nodes_in more
+        → length ((if b then text_of fields ∷ names fields else names fields) ++ names more) ≤ suc (nodes_in fields + nodes_in more)
+    go true f m = let c : length ((text_of fields ∷ names fields) ++ names more) ≡ suc (length (names fields)) + length (names more) = length-append (text_of fields ∷ names fields) (names more) in omega (arith, f, m, c)
+    go false f m = let c : length (names fields ++ names more) ≡ length (names fields) + length (names more) = length-append (names fields) (names more) in omega (arith, f, m, c)
+
 names_long : (o : Options) (es : List Entry) → length (flat_slot_names o es) ≡ length (slot_owners o es)
 unfolding all_open
 names_long o es =
@@ -114,6 +133,14 @@ module _ (t : Tree) (program : IsProgram t) (one : is_one_scope (alone t) ≡ tr
 
   pub fault_told : has_fault same_name (places (alone t)) ≡ has_flat_fault (entries (alone t))
   fault_told = (flat_trees.flat_faults (alone t) flat).0
+
+  pub few : length (entries (alone t)) ≤ 2 ^ 30
+  few =
+      let a : length (map (λ (e : Entry). e.name) (entries (alone t))) ≡ length (entries (alone t)) = length-map (entries (alone t)) (λ e. e.name) in
+      let b : length (map (λ (e : Entry). e.name) (entries (alone t))) ≡ length (names (alone t)) = ap length (entries_named (alone t)) in
+      let c : length (names (alone t)) ≤ suc (nodes_in t.fields + 0) = names_most (alone t) in
+      let d : suc (nodes_in t.fields) < 2 ^ 30 = program.1 in
+      omega (arith, a, b, c, d)
 
   -- the names that are chosen
   given_told : (o : Options) → length (flat_slot_names o (entries (alone t))) ≡ length (slot_owners o (entries (alone t)))

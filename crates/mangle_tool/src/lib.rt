@@ -14,4 +14,6 @@ pub mod source;
 pub mod status;
 #[cfg(test)]
 mod tests;
+#[cfg(test)]
+mod tree_tests;
 pub mod write_whole;

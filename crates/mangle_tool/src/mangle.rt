@@ -7,7 +7,7 @@ ghost use Rattle.mangle_tool.specs.Mangling.{IsMangling};
 ghost use Rattle.mangle_tool.specs.Answer.{IsProgramCause};
 
 use crate::estree::MangleError;
-use one_scope::{has_fault, list_places, new_names};
+use one_scope::{MangleOptions, has_fault, list_places, new_names};
 use std::alloc::Global;
 use tree_core::Program;
 use tree_rename::rename;
