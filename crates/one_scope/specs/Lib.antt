@@ -2,5 +2,6 @@ pub mod Entries
 pub mod EntryViews
 pub mod OneScope
 pub mod Flat
+pub mod Steps
 pub mod Laws
 pub mod Open

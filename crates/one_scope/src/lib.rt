@@ -2,6 +2,13 @@
 #![tactic(auto)]
 
 mod entry;
+mod faults;
 mod laws;
+mod options;
+mod roles;
+mod slots;
 
 pub use entry::Entry;
+pub use faults::has_fault;
+pub use options::MangleOptions;
+pub use slots::{Slots, keeps_all, slots_of};

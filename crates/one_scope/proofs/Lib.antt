@@ -1,0 +1,5 @@
+pub mod Texts
+pub mod Clashes
+pub mod Distinct
+pub mod Owners
+pub mod Weights
