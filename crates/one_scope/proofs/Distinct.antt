@@ -1,5 +1,5 @@
 -- Lists of names, each once, and where a name stands in them.
-use Rattle.std.specs.Prelude.{◌≡◌, ℕ, suc, ◌+◌, Bool, true, false, cond, ◌||◌, List, [], ◌∷◌, ◌++◌, length, filter, Some, None, is_some, bytes_eq, if◌then◌else◌}
+use Rattle.std.specs.Prelude.{◌≡◌, ◌≤◌, ℕ, suc, ◌+◌, Bool, true, false, cond, ◌||◌, List, [], ◌∷◌, ◌++◌, length, filter, Some, None, is_some, bytes_eq, if◌then◌else◌}
 use Rattle.std.specs.List.{position_from}
 use Rattle.std.proofs.Common.{refl, sym, ap, ◌∙◌, arith}
 use Rattle.std.proofs.lemmas.Bool.{or_parts, both_ways}
@@ -163,3 +163,27 @@ pairs_filter {X} R test (x ∷ xs) h = go (test x) (all_filter (R x) test xs h.0
 pub distinct_apart : (test : Text → Bool) (xs : List Text) → AllApart (filter test (distinct xs))
 unfolding all_open
 distinct_apart test xs = pairs_filter (λ x y. bytes_eq x y ≡ false) test (distinct xs) (after_apart [] xs)
+
+-- ---- they are no more than the names
+
+pub filter_less : {X : Type 0} (test : X → Bool) (xs : List X) → length (filter test xs) ≤ length xs
+filter_less test [] = omega arith
+filter_less {X} test (x ∷ xs) = go (test x) (filter_less test xs)
+  where
+    go : (b : Bool) → length (filter test xs) ≤ length xs → length (cond b (x ∷ filter test xs) (filter test xs)) ≤ suc (length xs)
+    go true ih = omega (arith, ih)
+    go false ih = omega (arith, ih)
+
+after_less : (before xs : List Text) → length (distinct_after before xs) ≤ length xs
+unfolding all_open
+after_less before [] = omega arith
+after_less before (y ∷ ys) = go (is_among before y) (after_less before ys) (after_less (y ∷ before) ys)
+  where
+    go : (b : Bool) → length (distinct_after before ys) ≤ length ys → length (distinct_after (y ∷ before) ys) ≤ length ys
+        → length (elim b as (λ c. List Text) [ true ↦ distinct_after before ys | false ↦ y ∷ distinct_after (y ∷ before) ys ]) ≤ suc (length ys)
+    go true ih jh = omega (arith, ih)
+    go false ih jh = omega (arith, jh)
+
+pub distinct_less : (xs : List Text) → length (distinct xs) ≤ length xs
+unfolding all_open
+distinct_less xs = after_less [] xs

@@ -3,3 +3,5 @@ pub mod Clashes
 pub mod Distinct
 pub mod Owners
 pub mod Weights
+pub mod Taken
+pub mod Given

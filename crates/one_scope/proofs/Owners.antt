@@ -1,9 +1,9 @@
 -- The names that are given up, found by one pass.
 use Rattle.std.specs.Prelude.{◌≡◌, ◌≤◌, ◌<◌, ℕ, ◌+◌, Bool, true, false, not, List, [], ◌∷◌, ◌++◌, length, get_or, map, take, filter, Option, Some, None, is_some, bytes_eq, if◌then◌else◌}
 use Rattle.std.proofs.Common.{refl, sym, ap, ◌∙◌, arith}
-use Rattle.std.proofs.lemmas.List.{length-append, map-append, take_all}
+use Rattle.std.proofs.lemmas.List.{length-append, length-map, map-append, take_all}
 use Rattle.std.proofs.lemmas.List.Elements.{filter-append}
-use Rattle.one_scope.proofs.Distinct.{AllApart, among_distinct, among_filter, distinct_apart, distinct_more, slot_more, slot_some}
+use Rattle.one_scope.proofs.Distinct.{AllApart, among_distinct, among_filter, distinct_apart, distinct_less, distinct_more, filter_less, slot_more, slot_some}
 use Rattle.one_scope.proofs.Texts.{put_none, seen_more}
 use Rattle.one_scope.specs.Entries.{Entry}
 use Rattle.one_scope.specs.Flat.{declared_names, flat_slot, keeps_all, slot_owners}
@@ -83,6 +83,20 @@ owners_apart o es = go (keeps_all o es)
     go : (b : Bool) → AllApart (if b then [] else filter (λ x. not (is_reserved o x)) (distinct (map (λ e. e.name) (filter (λ e. is_declaring e.role) es))))
     go true = tt
     go false = distinct_apart (λ x. not (is_reserved o x)) (map (λ e. e.name) (filter (λ e. is_declaring e.role) es))
+
+pub owners_few : (o : Options) (es : List Entry) → length (slot_owners o es) ≤ length es
+unfolding slot_owners declared_names
+owners_few o es = go (keeps_all o es)
+  where
+    names : List Text
+    names = map (λ e. e.name) (filter (λ e. is_declaring e.role) es)
+
+    few : length names ≤ length es
+    few = let a : length names ≡ length (filter (λ e. is_declaring e.role) es) = length-map (filter (λ e. is_declaring e.role) es) (λ e. e.name) in let b = filter_less (λ e. is_declaring e.role) es in omega (arith, a, b)
+
+    go : (b : Bool) → length {A = Text} (if b then [] else filter (λ x. not (is_reserved o x)) (distinct names)) ≤ length es
+    go true = omega arith
+    go false = let a = filter_less (λ x. not (is_reserved o x)) (distinct names) in let b = distinct_less names in let c : length names ≤ length es = few in omega (arith, a, b, c)
 
 -- what the pass has found at its end
 pub owners_found : {X : Type 0} (o : Options) (view : X → Entry) (xs : List X) (i : ℕ) (keeps : Bool) → length xs ≤ i → keeps ≡ keeps_all o (map view xs) → keeps ≡ false → open_names o (map view (take i xs)) ≡ slot_owners o (map view xs)

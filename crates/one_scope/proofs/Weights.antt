@@ -4,7 +4,7 @@ use Rattle.std.specs.List.{position_from}
 use Rattle.std.proofs.Common.{refl, sym, ap, ◌∙◌, arith, subst}
 use Rattle.std.proofs.lemmas.List.{length-append, length-map, map-append}
 use Rattle.std.proofs.lemmas.List.Elements.{filter-append}
-use Rattle.one_scope.proofs.Distinct.{AllApart}
+use Rattle.one_scope.proofs.Distinct.{AllApart, filter_less}
 use Rattle.one_scope.proofs.Texts.{same_is, same_sym, seen_more}
 use Rattle.one_scope.specs.Entries.{Entry}
 use Rattle.one_scope.specs.Flat.{flat_slot, flat_weight}
@@ -101,14 +101,6 @@ weights_more es e (x ∷ xs) apart h = go (bytes_eq x e.name) refl (weights_more
 
 -- ---- the counts fit
 
-filter_less : {X : Type 0} (test : X → Bool) (xs : List X) → length (filter test xs) ≤ length xs
-filter_less test [] = omega arith
-filter_less {X} test (x ∷ xs) = go (test x) (filter_less test xs)
-  where
-    go : (b : Bool) → length (filter test xs) ≤ length xs → length (cond b (x ∷ filter test xs) (filter test xs)) ≤ suc (length xs)
-    go true ih = omega (arith, ih)
-    go false ih = omega (arith, ih)
-
 pub weight_less : (es : List Entry) (x : Text) → flat_weight es x ≤ length es
 unfolding all_open
 weight_less es x = filter_less (λ e. is_reference e.role && bytes_eq e.name x) es
@@ -118,7 +110,7 @@ index_less es [] k = omega arith
 index_less es (x ∷ xs) zero = weight_less es x
 index_less es (x ∷ xs) (suc k) = index_less es xs k
 
-position_within : (test : Text → Bool) (k : ℕ) (xs : List Text) (j : ℕ) → position_from test k xs ≡ Some j → j < k + length xs
+pub position_within : (test : Text → Bool) (k : ℕ) (xs : List Text) (j : ℕ) → position_from test k xs ≡ Some j → j < k + length xs
 position_within test k [] j e = absurd (none_some j e)
 position_within test k (x ∷ xs) j e = go (test x) e (position_within test (k + 1) xs j)
   where
@@ -154,12 +146,12 @@ module _ {X : Type 0} (view : X → Entry) (xs : List X) (i : ℕ) (d : X) (h : 
 -- a count that is raised fits
 module _ {X : Type 0} (view : X → Entry) (xs : List X) (i : ℕ) (h : i < length xs) (owners : List Text) (weights : List ℕ)
     (counted : weights ≡ map (flat_weight (map view (take i xs))) owners) where
-  pub turn_few : (slot : Option ℕ) (most : ℕ) → length xs < most → IfSome slot (λ k. slice_index weights k + 1 < most)
-  turn_few None most m = tt
-  turn_few (Some k) most m =
+  pub turn_few : (slot : Option ℕ) (most limit : ℕ) → length xs < most → most ≤ limit → IfSome slot (λ k. slice_index weights k + 1 < limit)
+  turn_few None most limit m r = tt
+  turn_few (Some k) most limit m r =
       let l : slice_index weights k ≤ length (map view (take i xs)) = rw counted (index_less (map view (take i xs)) owners k) in
       let t : length (map view (take i xs)) ≤ i = taken i in
-      omega (arith, l, t, h, m)
+      omega (arith, l, t, h, m, r)
     where
       take_less : (j : ℕ) (ys : List X) → length (take j ys) ≤ j
       take_less zero ys = omega arith

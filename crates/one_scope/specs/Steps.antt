@@ -1,12 +1,14 @@
 -- What the analysis keeps in maps under names, and a step of it (own).
-use Rattle.std.specs.Prelude.{◌≡◌, ℕ, ◌+◌, slice_index, slice_set, Bool, true, ◌&&◌, List, [], ◌∷◌, Option, Some, None, bytes_eq, if◌then◌else◌}
+use Rattle.std.specs.Prelude.{◌≡◌, ◌<◌, ℕ, ◌+◌, not, get_or, IfSome, slice_index, slice_set, Bool, true, ◌&&◌, List, [], ◌∷◌, Option, Some, None, bytes_eq, if◌then◌else◌}
 use Rattle.std.specs.Borrow.{Bor}
 use Rattle.std.specs.HashMap.{HashMap, get_by}
+use Rattle.std.specs.List.{AllByRecursion}
 use Rattle.one_scope.specs.Entries.{Entry}
 use Rattle.one_scope.specs.Flat.{flat_slot}
 use Rattle.tree_nodes.specs.Tree.{Text}
 use Rattle.tree_semantic.specs.Bindings.{or_else, same_name}
 use Rattle.tree_semantic.specs.Homes.{is_declaring, is_var}
+use Rattle.tree_semantic.specs.PrivateNames.{is_among}
 
 -- what a map has at a name
 abbrev pub at_name : {X S : Type 0} → HashMap (Bor Text) X S → Text → Option X
@@ -34,3 +36,25 @@ HasSlots owners m = (x : Text) → at_name m x ≡ flat_slot owners x
 unfoldable pub one_more_at : Option ℕ → List ℕ → List ℕ
 one_more_at None ns = ns
 one_more_at (Some k) ns = slice_set ns k (slice_index ns k + 1)
+
+-- both lists have the same names
+abbrev pub AreSameNames : List Text → List Text → Type 0
+AreSameNames xs ys = (x : Text) → is_among xs x ≡ is_among ys x
+
+-- a place that isn't given up keeps this name
+unfoldable pub keeps_name : List Text → Text → Entry → Bool
+keeps_name owners x e = not (is_among owners e.name) && same_name e.name x
+
+-- ---- names that are chosen: by number among those that are given, or none
+
+unfoldable pub chosen_name : List Text → Option ℕ → Text → Text
+chosen_name names None x = x
+chosen_name names (Some k) x = get_or names k []
+
+unfoldable pub chosen_names : List Text → List (Option ℕ) → List Text → List Text
+chosen_names names (c ∷ cs) (x ∷ xs) = chosen_name names c x ∷ chosen_names names cs xs
+chosen_names names _ _ = []
+
+-- each number is that of a name
+abbrev pub AreWithin : List (Option ℕ) → ℕ → Type 0
+AreWithin cs n = AllByRecursion (λ c. IfSome c (λ k. k < n)) cs

@@ -1,10 +1,13 @@
 //! What a mangling is asked to do.
 
-ghost use Rattle.std.specs.Prelude.{◌≡◌, [], false};
+ghost use Rattle.std.specs.Prelude.{◌≡◌, ◌≤◌, [], false, length, IfOk, OnErr};
+ghost use Rattle.one_scope.specs.Steps.{AreSameNames};
+ghost use Rattle.oxc_mangler.specs.Guard.{HasAlso};
 ghost use Rattle.oxc_mangler.specs.Kept.{is_reserved};
 ghost use Rattle.oxc_mangler.specs.Options.{Options};
 
-use std::alloc::Global;
+use oxc_mangler::Guard;
+use std::alloc::{AllocError, Global};
 use std::collections::HashSet;
 use std::marker::Model;
 
@@ -68,5 +71,28 @@ impl MangleOptions {
         ensures { result ≡ is_reserved self.now name.now }
     {
         name == "arguments" || self.reserved.contains(name)
+    }
+
+    /// A guard that refuses the reserved names.
+    pub fn guard(&self) -> Result<Guard, AllocError>
+        ensures names { IfOk result (λ g. AreSameNames g self.now.reserved) }
+        ensures few { IfOk result (λ g. length g ≤ length self.now.reserved) }
+    {
+        let mut guard = Guard::new(self.alloc);
+        for name in &self.reserved {
+            guard.insert(name.as_str())?;
+        }
+        Ok(guard)
+    }
+
+    /// Lets bindings keep the name, and gives it to none. Err is want of memory, and nothing is changed.
+    pub fn reserve(&mut self, name: &str) -> Result<(), AllocError>
+        ensures reserved { IfOk result (λ _. HasAlso self.old.reserved name.now self.new.reserved) }
+        ensures others { (self.new.top_level ≡ self.old.top_level) × (self.new.keep_functions ≡ self.old.keep_functions) × (self.new.keep_classes ≡ self.old.keep_classes) × (self.new.readable ≡ self.old.readable) }
+        ensures err { OnErr result (self.new.reserved ≡ self.old.reserved) }
+    {
+        let name = String::from_str(self.alloc, name)?;
+        self.reserved.insert(name)?;
+        Ok(())
     }
 }

@@ -18,7 +18,7 @@ use std::collections::HashMap;
 #[derive(Drop)]
 pub struct Slots {
     pub places: Vec<Option<u32>>,
-    pub weights: Vec<u32>,
+    pub weights: Vec<usize>,
 }
 
 /// The slots of these places. Err is want of memory.
@@ -80,9 +80,9 @@ fn give_slot<'t>(slots: &mut HashMap<&'t str, u32>, name: &'t str) -> Result<(),
 }
 
 // Counts a reference to the slot, if there is one.
-fn count_reference(weights: &mut Vec<u32>, slot: Option<u32>)
+fn count_reference(weights: &mut Vec<usize>, slot: Option<u32>)
     requires within { IfSome slot (λ k. k < length weights.old.items) }
-    requires few { IfSome slot (λ k. slice_index weights.old.items k + 1 < 2 ^ 32) }
+    requires few { IfSome slot (λ k. slice_index weights.old.items k + 1 < 2 ^ 64) }
     ensures { weights.new.items ≡ one_more_at slot weights.old.items }
 {
     if let Some(slot) = slot {

@@ -1,5 +1,5 @@
 use Rattle.std.specs.Prelude.{ℕ, map, replicate}
-use Rattle.std.proofs.Common.{sym, ap, ◌∙◌, take_all}
+use Rattle.std.proofs.Common.{sym, ap, ◌∙◌, take_all, arith}
 use Rattle.one_scope.proofs.Owners.{owners_apart}
 use Rattle.one_scope.proofs.Weights.{weights_none, turn_fits, turn_few, turn_counts, turn_passes, turn_places}
 use Rattle.one_scope.specs.EntryViews.{entry_view}
@@ -25,7 +25,7 @@ pub count_reference-requires-clause-few : goal.count_reference-requires-clause-f
 count_reference-requires-clause-few c =
     let l = c.loop-entry in
     let owners = slot_owners c.args.options.now (map entry_view c.args.entries.now) in
-    turn_few entry_view c.args.entries.now l.entry-index c.loop-entry-test.true owners l.weights.items l.invariant.counted c.copied-slot.result 4294967296 c.requires.few
+    turn_few entry_view c.args.entries.now l.entry-index c.loop-entry-test.true owners l.weights.items l.invariant.counted c.copied-slot.result 4294967296 18446744073709551616 c.requires.few (omega arith)
 
 pub loop-entry-preserved : goal.loop-entry-preserved
 loop-entry-preserved c =
