@@ -11,3 +11,10 @@ pub mod FlatOwners
 pub mod FlatSlots
 pub mod FlatNames
 pub mod FlatTrees
+pub mod Texts
+pub mod Clashes
+pub mod Distinct
+pub mod Owners
+pub mod Weights
+pub mod Taken
+pub mod Given
