@@ -37,8 +37,12 @@ spared false c given cs x xs ys h e = e
 pub plain_chosen : (given : List Text) (ss : List Site) (cs : List (Option ℕ)) (xs : List Text) → spare_plain ss cs ≡ true
     → plain_names ss (chosen given cs xs) ≡ plain_names ss xs
 unfolding chosen plain_names spare_plain
-plain_chosen given [] cs xs h = refl
-plain_chosen given (s ∷ ss) cs [] h = refl
+plain_chosen given [] [] [] h = refl
+plain_chosen given [] [] (x ∷ xs) h = refl
+plain_chosen given [] (c ∷ cs) [] h = refl
+plain_chosen given [] (c ∷ cs) (x ∷ xs) h = refl
+plain_chosen given (s ∷ ss) [] [] h = refl
+plain_chosen given (s ∷ ss) (c ∷ cs) [] h = refl
 plain_chosen given (s ∷ ss) [] (x ∷ xs) h = ap (plain_names (s ∷ ss)) (chosen_nothing given (x ∷ xs))
 plain_chosen given (s ∷ ss) (c ∷ cs) (x ∷ xs) h =
     let parts = both (not (is_plain s) || not (is_some c)) (spare_plain ss cs) h in

@@ -21,6 +21,6 @@ chosen given cs (x ∷ xs) = or_own (given_name given cs) x ∷ chosen given (dr
 
 -- no plain name gets a new one
 unfoldable pub spare_plain : List Site → List (Option ℕ) → Bool
-spare_plain [] cs = true
-spare_plain (s ∷ ss) [] = true
+spare_plain ss [] = true
+spare_plain [] (c ∷ cs) = true
 spare_plain (s ∷ ss) (c ∷ cs) = (not (is_plain s) || not (is_some c)) && spare_plain ss cs

@@ -2,8 +2,11 @@
 #![tactic(auto)]
 
 mod laws;
-mod rename;
+mod renaming;
 mod walk;
 
 pub use laws::renamed_programs_are_programs;
-pub use rename::rename_tree;
+pub use renaming::{rename, rename_tree};
+
+#[cfg(test)]
+mod tests;

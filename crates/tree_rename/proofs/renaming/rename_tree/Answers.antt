@@ -4,14 +4,14 @@ use Rattle.tree_places.specs.Places.{names}
 use Rattle.tree_places.specs.Renaming.{IsRenamed}
 use Rattle.tree_rename.proofs.Names.{renamed_names}
 use Rattle.tree_rename.proofs.Plain.{walk_renames}
-use Rattle.tree_rename.proofs.rename.rename_tree.Goals as goal
+use Rattle.tree_rename.proofs.renaming.rename_tree.Goals as goal
 
 pub returns-clause-renamed : goal.returns-clause-renamed
-returns-clause-renamed c =
+returns-clause-renamed c formed spare =
     subst (IsRenamed (alone c.args.root)) (sym c.in_ok-rename_node.ensures.tree)
-    (walk_renames (map string_bytes c.args.names.now) c.args.choices.now (alone c.args.root) c.requires.formed c.requires.spare)
+    (walk_renames (map string_bytes c.args.names.now) c.args.choices.now (alone c.args.root) formed spare)
 
 pub returns-clause-names : goal.returns-clause-names
-returns-clause-names c =
+returns-clause-names c formed =
     ap names c.in_ok-rename_node.ensures.tree
-    ∙ renamed_names (map string_bytes c.args.names.now) c.args.choices.now (alone c.args.root) c.requires.formed
+    ∙ renamed_names (map string_bytes c.args.names.now) c.args.choices.now (alone c.args.root) formed
