@@ -1,7 +1,8 @@
 -- The program that is renamed by the names of its one scope is the mangled one.
-use Rattle.std.specs.Prelude.{◌≡◌, ◌<◌, ◌≤◌, ℕ, zero, suc, ◌+◌, ◌^◌, Bool, true, false, not, ◌&&◌, List, [], ◌∷◌, ◌++◌, map, filter, length, get_or, slice_get, Option, Some, None, if◌then◌else◌}
+use Rattle.std.specs.Prelude.{◌≡◌, ◌<◌, ◌≤◌, ℕ, zero, suc, ◌+◌, ◌^◌, Bool, true, false, not, ◌&&◌, ◌||◌, List, [], ◌∷◌, ◌++◌, map, filter, length, get_or, slice_get, Option, Some, None, is_some, string_bytes, IsTrue, if◌then◌else◌}
+use Rattle.std.specs.declared.string.String.{String}
 use Rattle.std.specs.List.{AllByRecursion, Contains, position_from}
-use Rattle.std.proofs.Common.{refl, sym, ap, ◌∙◌, subst, arith, true≢false}
+use Rattle.std.proofs.Common.{refl, sym, ap, ◌∙◌, subst, arith, inl, inr, true≢false}
 use Rattle.std.proofs.lemmas.List.{length-append, length-map}
 use Rattle.std.proofs.lemmas.Option.{slice_get-get_or}
 use Rattle.one_scope.proofs.FlatTrees as flat_trees
@@ -32,8 +33,8 @@ use Rattle.tree_nodes.specs.Tree.{Parts, Text, Tree, alone, atom, child, done, m
 use Rattle.tree_places.proofs.Numbers.{one_name_each}
 use Rattle.tree_places.proofs.TreesRooted as rooted
 use Rattle.tree_places.specs.Places.{Site, is_place, named_by, names, places, sites}
-use Rattle.tree_places.specs.Renaming.{IsRenamed, is_plain, plain_names}
-use Rattle.tree_rename.specs.Chosen.{chosen, given_name, or_own}
+use Rattle.tree_places.specs.Renaming.{IsRenamed, is_plain}
+use Rattle.tree_rename.specs.Chosen.{chosen, given_name, or_own, spare_plain}
 use Rattle.tree_nodes.specs.declared.table.Role.{Role}
 use Rattle.tree_nodes.specs.declared.table.Role.TheVariants.{MemberKey, Plain}
 use Rattle.tree_semantic.proofs.Lists.{In, contains_from_in}
@@ -114,15 +115,16 @@ not_plain s f = role s.setting.role f.role
     role MemberKey h = absurd (true≢false (sym h))
     role _ h = and_no (not s.private)
 
-no_plain : (ss : List Site) → AllByRecursion IsFlat ss → (xs : List Text) → plain_names ss xs ≡ []
-unfolding all_open
-no_plain [] all xs = none xs
-  where
-    none : (ys : List Text) → plain_names [] ys ≡ []
-    none [] = refl
-    none (y ∷ ys) = refl
-no_plain (s ∷ ss) all [] = refl
-no_plain (s ∷ ss) all (x ∷ xs) = ap (λ b. if b then x ∷ plain_names ss xs else plain_names ss xs) (not_plain s all.0) ∙ no_plain ss all.1 xs
+spare_flat : (ss : List Site) → AllByRecursion IsFlat ss → (cs : List (Option ℕ)) → spare_plain ss cs ≡ true
+unfolding spare_plain
+spare_flat [] all [] = refl
+spare_flat [] all (c ∷ cs) = refl
+spare_flat (s ∷ ss) all [] = refl
+spare_flat (s ∷ ss) all (c ∷ cs) = ap (λ b. (not b || not (is_some c)) && spare_plain ss cs) (not_plain s all.0) ∙ spare_flat ss all.1 cs
+
+each_fits : (given : List String) → ((x : Text) → In x (map string_bytes given) → is_identifier_name x ≡ true) → AllByRecursion (λ s. IsTrue (is_identifier_name (string_bytes s))) given
+each_fits [] f = tt
+each_fits (s ∷ ss) f = (f (string_bytes s) (inl refl), each_fits ss (λ x i. f x (inr i)))
 
 module _ (t : Tree) (program : IsProgram t) (one : is_one_scope (alone t) ≡ true) where
   placed : is_placed t ≡ true
@@ -175,6 +177,11 @@ module _ (t : Tree) (program : IsProgram t) (one : is_one_scope (alone t) ≡ tr
       let n = names_are_bounded o (alone t) x c in
       ap is_identifier_name n.1 ∙ short_names_are_identifiers n.0
 
-  -- no place has a plain name
-  pub none_plain : (xs : List Text) → plain_names (sites (alone t)) xs ≡ []
-  none_plain xs = no_plain (sites (alone t)) flat.flat xs
+  -- so none is spared from new names for being plain
+  pub spare : (cs : List (Option ℕ)) → IsTrue (spare_plain (sites (alone t)) cs)
+  spare cs = spare_flat (sites (alone t)) flat.flat cs
+
+  -- the names that are given, as the code has them
+  pub given_names_fit : (given : List String) → map string_bytes given ≡ flat_slot_names (usual_options t) (entries (alone t))
+      → AllByRecursion (λ s. IsTrue (is_identifier_name (string_bytes s))) given
+  given_names_fit given e = each_fits given (λ x i. given_identifiers x (subst (In x) e i))

@@ -3,6 +3,7 @@
 ghost use Rattle.std.specs.List.{AllByRecursion};
 ghost use Rattle.std.specs.Prelude.{◌≡◌, IfOk, IsTrue, map, string_bytes};
 ghost use Rattle.syntax_lex.specs.Identifier.{is_identifier_name};
+ghost use Rattle.tree_core.specs.Program.{IsProgram};
 ghost use Rattle.tree_nodes.specs.Tree.{alone};
 ghost use Rattle.tree_places.specs.Places.{names as names_of, sites};
 ghost use Rattle.tree_places.specs.Renaming.{IsRenamed};
@@ -29,6 +30,7 @@ pub fn rename(
     ensures renamed { IfOk result (λ p. IsRenamed (alone program) (alone p)) }
     ensures names { IfOk result (λ p. names_of (alone p)
         ≡ chosen (map string_bytes names.now) choices.now (names_of (alone program))) }
+    ensures program { IfOk result (λ p. IsProgram p) }
 {
     let mut root = program.into_root();
     rename_node(alloc, &mut root, names, choices)?;
