@@ -1,5 +1,6 @@
 pub mod Entries
 pub mod EntryViews
+pub mod Listing
 pub mod OneScope
 pub mod Flat
 pub mod Steps
