@@ -23,4 +23,6 @@ pub use walk::list_places;
 pub use walk_laws::one_scope_is_flat;
 
 #[cfg(test)]
+mod entry_tests;
+#[cfg(test)]
 mod tests;

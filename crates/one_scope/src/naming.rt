@@ -7,12 +7,11 @@ ghost use Rattle.one_scope.specs.Steps.{AreWithin, chosen_names};
 ghost use Rattle.oxc_mangler.specs.Guard.{is_refused};
 ghost use Rattle.tree_nodes.specs.Tree.{Text};
 
-use oxc_mangler::{Guard, free_names, slot_names};
-use std::alloc::{AllocError, Global};
-
 use crate::entry::Entry;
 use crate::options::MangleOptions;
 use crate::slots::slots_of;
+use oxc_mangler::{Guard, free_names, slot_names};
+use std::alloc::{AllocError, Global};
 
 /// The new names of a tree's places: of each place the slot whose name it gets, if it gets one, and the
 /// names of the slots.

@@ -51,6 +51,21 @@ impl MangleOptions {
         }
     }
 
+    /// Names are given as `slot_0`, `slot_1` and so on, if `readable`; else short ones.
+    pub fn set_readable(&mut self, readable: bool)
+        ensures { self.new ≡ record { top_level = self.old.top_level; keep_functions = self.old.keep_functions; keep_classes = self.old.keep_classes; reserved = self.old.reserved; readable = readable } }
+    {
+        self.readable = readable;
+    }
+
+    /// Functions keep their names if `functions`, and classes theirs if `classes`.
+    pub fn keep_names(&mut self, functions: bool, classes: bool)
+        ensures { self.new ≡ record { top_level = self.old.top_level; keep_functions = functions; keep_classes = classes; reserved = self.old.reserved; readable = self.old.readable } }
+    {
+        self.keep_functions = functions;
+        self.keep_classes = classes;
+    }
+
     /// Whether bindings of the root may be renamed.
     pub fn top_level(&self) -> bool
         ensures { result ≡ self.now.top_level }

@@ -1,10 +1,10 @@
-use Rattle.std.specs.Prelude.{◌≡◌, ◌≤◌, ◌<◌, ◌+◌, ℕ, List, length, map, string_bytes}
-use Rattle.std.proofs.Common.{refl, sym, ap, ◌∙◌, arith, subst}
+use Rattle.std.specs.Prelude.{◌≤◌, ◌+◌, ℕ, length, map, string_bytes}
+use Rattle.std.proofs.Common.{sym, ap, ◌∙◌, arith, subst}
 use Rattle.std.proofs.lemmas.List.{length-map}
 use Rattle.one_scope.proofs.Given.{choices_within, chosen_are, free_are, free_length, slots_named}
 use Rattle.one_scope.proofs.Owners.{owners_few}
 use Rattle.one_scope.specs.EntryViews.{entry_view}
-use Rattle.one_scope.specs.Flat.{flat_slot, flat_slots, flat_weight, slot_owners}
+use Rattle.one_scope.specs.Flat.{flat_weight, slot_owners}
 use Rattle.one_scope.specs.Steps.{AreWithin}
 use Rattle.one_scope.proofs.naming.new_names.Goals as goal
 
@@ -28,15 +28,15 @@ returns-clause-names c =
     let weights = c.as_slice-weights.ensures.value ∙ c.in_ok-slots.ensures.weights in
     let count = ap length weights ∙ length-map (slot_owners o es) (flat_weight es) in
     slots_named o es _ _ c.as_slice-weights.result.now
-      (free_are o es (slot_owners o es) c.in_ok-guard.guard _ c.readable.result (length c.as_slice-weights.result.now) c.readable.ensures count
-        (subst (λ (n : ℕ). length c.in_ok-guard.guard ≤ length o.reserved + n) (sym (length-map c.args.entries.now entry_view)) c.in_ok-guard.ensures.few)
-        c.in_ok-guard.ensures.refuses c.in_ok-free.ensures.first)
-      weights c.in_ok-names.ensures
+    (free_are o es (slot_owners o es) c.in_ok-guard.guard _ c.readable.result (length c.as_slice-weights.result.now) c.readable.ensures count
+    (subst (λ (n : ℕ). length c.in_ok-guard.guard ≤ length o.reserved + n) (sym (length-map c.args.entries.now entry_view)) c.in_ok-guard.ensures.few)
+    c.in_ok-guard.ensures.refuses c.in_ok-free.ensures.first)
+    weights c.in_ok-names.ensures
 
 pub returns-clause-within : goal.returns-clause-within
 returns-clause-within c =
     subst (λ (n : ℕ). AreWithin c.in_ok-slots.slots.places.items n) (length-map c.in_ok-names.names.items string_bytes)
-      (choices_within c.args.options.now (map entry_view c.args.entries.now) _ _ _ c.as_slice-weights.result.now c.in_ok-slots.ensures.places (c.as_slice-weights.ensures.value ∙ c.in_ok-slots.ensures.weights) c.in_ok-names.ensures)
+    (choices_within c.args.options.now (map entry_view c.args.entries.now) _ _ _ c.as_slice-weights.result.now c.in_ok-slots.ensures.places (c.as_slice-weights.ensures.value ∙ c.in_ok-slots.ensures.weights) c.in_ok-names.ensures)
 
 pub returns-clause-chosen : goal.returns-clause-chosen
 returns-clause-chosen c = chosen_are c.args.options.now entry_view c.args.entries.now _ _ c.in_ok-slots.ensures.places (returns-clause-names c)

@@ -1,9 +1,9 @@
-use Rattle.std.specs.Prelude.{◌≡◌, ◌<◌, ◌+◌, length, map, get_or, is_some, not, None, List}
-use Rattle.std.proofs.Common.{refl, sym, ap, ◌∙◌, arith}
+use Rattle.std.specs.Prelude.{length, map, get_or, not, None}
+use Rattle.std.proofs.Common.{ap, ◌∙◌, arith}
 use Rattle.std.proofs.lemmas.List.{length-map}
 use Rattle.one_scope.proofs.Taken.{one_less, place_at, refuses_taken, turn_given_up, turn_kept}
 use Rattle.one_scope.specs.EntryViews.{entry_view}
-use Rattle.one_scope.specs.Flat.{flat_slot, flat_slots, slot_owners}
+use Rattle.one_scope.specs.Flat.{flat_slots, slot_owners}
 use Rattle.tree_semantic.specs.PrivateNames.{is_among}
 use Rattle.one_scope.proofs.naming.taken_names.Goals as goal
 use Rattle.one_scope.proofs.naming.taken_names.Goals.{then-is_none+in_ok-insert, else-is_none}
@@ -24,14 +24,15 @@ loop-i-preserved c =
     let owners = slot_owners c.args.options.now (map entry_view xs) in
     let place = ap (λ cs. get_or cs l.i None) c.requires ∙ place_at owners entry_view xs l.i _ h in
     elim c.if-is_none.branch [
-      then-is_none+in_ok-insert w ↦ record {
+      | then-is_none+in_ok-insert w ↦ record {
         names = λ x. ap (λ g. is_among g x) w.guard-is ∙ turn_kept entry_view xs l.i _ h owners c.args.options.now.reserved l.guard l.invariant.names _ place _ (c.is_none.ensures ∙ ap not w.if-is_none.true) w.in_ok-insert.ensures.names x;
         few = let e = ap length w.guard-is in let n = one_less _ (length w.insert.new.self) (length l.guard) w.in_ok-insert.ensures.once in let f = l.invariant.few in omega (arith, e, n, f);
       }
       | else-is_none w ↦ record {
         names = λ x. ap (λ g. is_among g x) w.guard-is ∙ turn_given_up entry_view xs l.i _ h owners c.args.options.now.reserved l.guard l.invariant.names _ place (c.is_none.ensures ∙ ap not w.if-is_none.false) x;
         few = let e = ap length w.guard-is in let f = l.invariant.few in omega (arith, e, f);
-      } ]
+      }
+    ]
 
 pub returns-clause-refuses : goal.returns-clause-refuses
 returns-clause-refuses c = refuses_taken c.args.options.now entry_view c.args.entries.now c.loop-i.i _ c.loop-i.guard c.loop-i-test.false c.loop-i.invariant.names

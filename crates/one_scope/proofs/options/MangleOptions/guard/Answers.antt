@@ -1,9 +1,8 @@
-use Rattle.std.specs.Prelude.{◌≡◌, ◌∷◌, List, ℕ, length, map, string_bytes}
+use Rattle.std.specs.Prelude.{length, map, string_bytes}
 use Rattle.std.specs.Map.Iter.{deref}
-use Rattle.std.proofs.Common.{refl, sym, ap, ◌∙◌, arith}
+use Rattle.std.proofs.Common.{ap, ◌∙◌}
 use Rattle.std.proofs.lemmas.Map.Iter.{rest_all, rest_more}
 use Rattle.one_scope.proofs.Taken.{few_more, few_none, reserved_all, reserved_more, reserved_none}
-use Rattle.tree_semantic.specs.PrivateNames.{is_among}
 use Rattle.one_scope.proofs.options.MangleOptions.guard.Goals as goal
 
 pub loop-name-init : goal.loop-name-init
