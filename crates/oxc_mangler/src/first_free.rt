@@ -1,6 +1,6 @@
 //! The first names that may be given.
 
-ghost use Rattle.std.specs.Prelude.{◌≡◌, ◌≤◌, ◌^◌, [], ◌∷◌, ◌++◌, length, map, string_bytes, if◌then◌else◌, IfOk, OnOk};
+ghost use Rattle.std.specs.Prelude.{◌≡◌, ◌≤◌, ◌^◌, [], ◌∷◌, ◌++◌, length, map, string_bytes, if◌then◌else◌, vec_len, IfOk, OnOk};
 ghost use Rattle.oxc_mangler.specs.FirstFree.{AreFirstFree, AreFreeWhereTaken};
 ghost use Rattle.oxc_mangler.specs.Guard.{is_refused};
 ghost use Rattle.oxc_mangler.specs.ShortNames.{candidate, readable_name};
@@ -19,6 +19,7 @@ pub fn free_names(
 ) -> Result<Vec<String>, AllocError>
     requires low { count ≤ 2 ^ 30 }
     requires few { length guard.now ≤ 2 ^ 30 }
+    ensures many { IfOk result (λ v. vec_len v ≡ count) }
     ensures first { IfOk result (λ v. AreFirstFree guard.now readable count (map string_bytes v.items)) }
     ensures free { IfOk result (λ v. AreFreeWhereTaken guard.now readable count (map string_bytes v.items)) }
 {

@@ -83,6 +83,8 @@ fn free_names_pass_over_what_was_inserted(rt: HostRuntime) -> Result<(), Fail> {
     guard.insert("slot_1")?;
     let short = free_names(rt.alloc(), &guard, false, 3)?;
     let readable = free_names(rt.alloc(), &guard, true, 11)?;
+    assert_eq!(rt; short.len(), 3);
+    assert_eq!(rt; readable.len(), 11);
     for (place, name) in [(0, "t"), (1, "r"), (2, "i")] {
         assert_eq!(rt; short[place].as_str(), name, "place {place}");
     }

@@ -13,6 +13,9 @@ pub loop-alloc-preserved : goal.loop-alloc-preserved
 loop-alloc-preserved c = one_more c.args.guard.now c.args.readable c.args.count _ _ c.loop-alloc.number (string_bytes c.in_ok-name.name) c.loop-alloc.invariant
     (omega (arith, c.loop-alloc-test.true, c.len.ensures, length-map c.loop-alloc.names.items string_bytes, c.loop-alloc.names.ok)) c.in_ok-name.ensures c.in_ok-push_unless_refused.ensures
 
+pub returns-clause-many : goal.returns-clause-many
+returns-clause-many c = omega (arith, c.loop-alloc-test.false, c.len.ensures, length-map c.loop-alloc.names.items string_bytes, c.loop-alloc.names.ok, c.loop-alloc.invariant.most)
+
 pub returns-clause-first : goal.returns-clause-first
 returns-clause-first c = all_found c.args.guard.now c.args.readable c.args.count _ c.loop-alloc.number c.loop-alloc.invariant (omega (arith, c.loop-alloc-test.false, c.len.ensures, length-map c.loop-alloc.names.items string_bytes, c.loop-alloc.names.ok))
 
