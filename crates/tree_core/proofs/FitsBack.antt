@@ -5,7 +5,7 @@ use Rattle.json_text.specs.HasText.{HasText, ItemsHaveText, MembersHaveText}
 use Rattle.json_text.proofs.Units.{AreCodeUnits-are_code_units, AreCodeUnits-text_of_units}
 use Rattle.tree_nodes.specs.Look.{onto}
 use Rattle.tree_core.specs.Reading.{are_distinct, find_member, is_listed, is_null_value, is_object, is_paired, items_from, list_of, offset_of, one, only_known, or_hole, part_from, part_in, row_for, run_of, shape_from, shape_of}
-use Rattle.tree_nodes.specs.Table.{Column, Row, row}
+use Rattle.tree_nodes.specs.Table.{Column, Row, row, row_named}
 use Rattle.tree_nodes.specs.Tree.{Atom, Parts, Tree, alone, atom, child, done, empty, flag, many, text, units, whole, word}
 use Rattle.tree_core.specs.Values.{atom_value, fields_value, items_value, node_value, value_of}
 use Rattle.tree_nodes.specs.declared.kind.Kind.{Kind}
