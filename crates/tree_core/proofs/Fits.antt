@@ -4,7 +4,6 @@ use Rattle.std.specs.Prelude.{ℕ, ◌^◌, ◌<◌, ◌≡◌, List, [], ◌∷
 use Rattle.json_text.specs.Json.{Json}
 use Rattle.json_text.specs.HasText.{HasText}
 use Rattle.tree_core.specs.Reading.{is_null_value, one, or_null, text_in, units_in, part_from, holder}
-use Rattle.tree_core.specs.Supported.{is_supported}
 use Rattle.tree_nodes.specs.Table.{Column, row}
 use Rattle.tree_nodes.specs.Tree.{Atom, Parts, Tree, alone, atom, child, done, empty, is_empty, many, text, units}
 use Rattle.tree_core.specs.Values.{atom_value, is_null_atom}
@@ -40,8 +39,8 @@ abbrev pub TakesList : FieldClass → Bool → Type 0
 TakesList c holes = (holder c ≡ None) × ((k : List ℕ) (d : Json) (t : Option Tree) (ts : Bool → Option Parts)
     → part_from c k d t ts ≡ option_map (λ us. many us done) (ts holes))
 
-abbrev pub FitsHead : Kind → ℕ → ℕ → Type 0
-FitsHead kind start stop = (is_supported kind ≡ true) × (start < 2 ^ 32) × (stop < 2 ^ 32)
+abbrev pub FitsHead : ℕ → ℕ → Type 0
+FitsHead start stop = (start < 2 ^ 32) × (stop < 2 ^ 32)
 
 abbrev mutual
   -- the fields of a node, beside its columns
@@ -52,7 +51,7 @@ abbrev mutual
   FitFields (atom a more) (c ∷ cs) = FitsAtom c.class a × FitsNext c.class a more × FitFields more cs
   FitFields (child k s e fields more) [] = ⊥
   FitFields (child k s e fields more) (c ∷ cs) =
-      TakesNode c.class × FitsHead k s e × FitFields fields (row k).columns × FitFields more cs
+      TakesNode c.class × FitsHead s e × FitFields fields (row k).columns × FitFields more cs
   FitFields (many items more) [] = ⊥
   FitFields (many items more) (c ∷ cs) = (holes : Bool) × TakesList c.class holes × FitItems items holes × FitFields more cs
 
@@ -60,15 +59,15 @@ abbrev mutual
   pub FitItems : Parts → Bool → Type 0
   FitItems done holes = Unit {0}
   FitItems (atom a more) holes = (holes ≡ true) × (a ≡ empty) × FitItems more holes
-  FitItems (child k s e fields more) holes = FitsHead k s e × FitFields fields (row k).columns × FitItems more holes
+  FitItems (child k s e fields more) holes = FitsHead s e × FitFields fields (row k).columns × FitItems more holes
   FitItems (many items more) holes = ⊥
 
 abbrev pub Fits : Tree → Type 0
-Fits t = FitsHead t.kind t.start t.stop × FitFields t.fields (row t.kind).columns
+Fits t = FitsHead t.start t.stop × FitFields t.fields (row t.kind).columns
 
 -- one part, by itself
 abbrev pub FitsPart : FieldClass → Parts → Type 0
 FitsPart c (atom a done) = FitsAtom c a
-FitsPart c (child k s e fields done) = TakesNode c × FitsHead k s e × FitFields fields (row k).columns
+FitsPart c (child k s e fields done) = TakesNode c × FitsHead s e × FitFields fields (row k).columns
 FitsPart c (many items done) = (holes : Bool) × TakesList c holes × FitItems items holes
 FitsPart c _ = ⊥

@@ -4,9 +4,8 @@ use Rattle.json_text.specs.Json.{Json, null, truth, whole as number, string, lis
 use Rattle.json_text.specs.HasText.{HasText, ItemsHaveText, MembersHaveText}
 use Rattle.json_text.proofs.Units.{AreCodeUnits-are_code_units, AreCodeUnits-text_of_units}
 use Rattle.tree_nodes.specs.Look.{onto}
-use Rattle.tree_core.specs.Reading.{are_distinct, find_member, is_listed, is_null_value, is_object, is_paired, items_from, list_of, offset_of, one, only_known, or_hole, part_from, part_in, row_for, run_of, shape_from, shape_of, supported_row}
-use Rattle.tree_core.specs.Supported.{is_supported}
-use Rattle.tree_nodes.specs.Table.{Column, Row, row}
+use Rattle.tree_core.specs.Reading.{are_distinct, find_member, is_listed, is_null_value, is_object, is_paired, items_from, list_of, offset_of, one, only_known, or_hole, part_from, part_in, row_for, run_of, shape_from, shape_of}
+use Rattle.tree_nodes.specs.Table.{Column, Row, row, row_named}
 use Rattle.tree_nodes.specs.Tree.{Atom, Parts, Tree, alone, atom, child, done, empty, flag, many, text, units, whole, word}
 use Rattle.tree_core.specs.Values.{atom_value, fields_value, items_value, node_value, value_of}
 use Rattle.tree_nodes.specs.declared.kind.Kind.{Kind}
@@ -41,12 +40,8 @@ abbrev head : Kind → ℕ → ℕ → Members → Members
 head k s e fields =
     member (codes "type") (string (row k).name) (member (codes "start") (number (pos s)) (member (codes "end") (number (pos e)) fields))
 
-row_of_head : (k : Kind) (s e : ℕ) (fields : Members) → is_supported k ≡ true
-    → row_for (head k s e fields) ≡ Some (row k)
-row_of_head k s e fields h =
-    ap (option_and_then supported_row) (text_of_ascii (row k).name (row_sound k).ascii)
-    ∙ ap (option_and_then (λ r. if is_supported r.kind then Some r else None)) (row_named-name k)
-    ∙ ap (λ b. if b then Some (row k) else None) (ap is_supported (row_kind k) ∙ h)
+row_of_head : (k : Kind) (s e : ℕ) (fields : Members) → row_for (head k s e fields) ≡ Some (row k)
+row_of_head k s e fields = ap (option_and_then row_named) (text_of_ascii (row k).name (row_sound k).ascii) ∙ row_named-name k
 
 offset_again : (n : ℕ) → n < 2 ^ 32 → offset_of (Some (number (pos n))) ≡ Some n
 offset_again n h = rw (lt-ltb n (2 ^ 32) h) refl
@@ -56,7 +51,7 @@ past_head : (k : Kind) (s e : ℕ) (l : List ℕ) (fields : Members) → bytes_e
     → find_member l (head k s e fields) ≡ find_member l fields
 past_head k s e l fields a b c = rw (a, b, c) refl
 
-node_entries : (k : Kind) (s e : ℕ) (es : List Entry) → FitsHead k s e → AreEntries es
+node_entries : (k : Kind) (s e : ℕ) (es : List Entry) → FitsHead s e → AreEntries es
     → all_columns es ≡ (row k).columns
     → (k ≡ Literal → is_object (find_member (codes "value") (all_members es)) ≡ false)
     → shape_of (node_value k s e (all_members es)) ≡ Some (record { kind = k; start = s; stop = e; fields = all_parts es })
@@ -79,7 +74,7 @@ node_entries k s e es h good columns literal =
     (bytes_turned l (codes "type") (listed_apart l (codes "type") (all_columns es) x typed))
     (bytes_turned l (codes "start") (listed_apart l (codes "start") (all_columns es) x starts))
     (bytes_turned l (codes "end") (listed_apart l (codes "end") (all_columns es) x ends))) in
-    node_from ms (λ c. part_in ms c) r s e (all_parts es) (row_of_head k s e fields h.0) (offset_again s h.1) (offset_again e h.2)
+    node_from ms (λ c. part_in ms c) r s e (all_parts es) (row_of_head k s e fields) (offset_again s h.0) (offset_again e h.1)
     distinct known paired (sym (ap (run_of (λ c. part_in ms c)) columns) ∙ run)
     ∙ ap (λ x. Some (record { kind = x; start = s; stop = e; fields = all_parts es })) (row_kind k)
 
@@ -116,7 +111,7 @@ NodeBack k s e fs =
     (shape_of (node_value k s e (fields_value fs (row k).columns)) ≡ Some (record { kind = k; start = s; stop = e; fields = fs }))
     × HasText (node_value k s e (fields_value fs (row k).columns))
 
-node_back : (k : Kind) (s e : ℕ) (fs : Parts) → FitsHead k s e → FitFields fs (row k).columns
+node_back : (k : Kind) (s e : ℕ) (fs : Parts) → FitsHead s e → FitFields fs (row k).columns
     → Listed fs (row k).columns → NodeBack k s e fs
 node_back k s e fs h f l =
     let name = text_of_ascii (row k).name (row_sound k).ascii in
@@ -130,10 +125,10 @@ node_back k s e fs h f l =
         AreCodeUnits-text_of_units (row k).name (row k).name name,
         (
           AreCodeUnits-are_code_units (codes "start") refl,
-          short_below s h.1,
+          short_below s h.0,
           (
             AreCodeUnits-are_code_units (codes "end") refl,
-            short_below e h.2,
+            short_below e h.1,
             subst MembersHaveText l.members (entries_text l.entries l.good),
           ),
         ),

@@ -12,7 +12,7 @@ use Rattle.std.proofs.lemmas.Slice.Eq.{bytes_eq-Decides}
 use Rattle.std.proofs.lemmas.Str.{IsUtf8-string_bytes}
 use Rattle.json_text.specs.Json.{Json}
 use Rattle.json_text.specs.Units.{units_of}
-use Rattle.json_text.proofs.Units.{text_of_units-units_of, bytes_eq-units_of, units_of-injective}
+use Rattle.json_text.proofs.Units.{AreCodeUnits-units_of, are_code_units-AreCodeUnits, text_of_units-units_of, bytes_eq-units_of, units_of-injective}
 use Rattle.serde_json.specs.Data.{Data, array, object, string, Members, no_members, member, depth, members_depth}
 use Rattle.serde_json.specs.Find.{get_member}
 use Rattle.serde_json.specs.View.{view, items_view, members_view}
@@ -20,8 +20,8 @@ use Rattle.serde_json.specs.declared.value.Value.{Value, the_lemmas}
 use Rattle.serde_json.specs.declared.value.Value.TheVariants.{String as StringValue}
 use Rattle.serde_json.proofs.Views.{Entry}
 use Rattle.tree_core.specs.JsonOf.{json_of, members_of}
-use Rattle.tree_core.specs.Readable.{is_ascii, is_readable, is_readable_class, are_readable}
-use Rattle.tree_core.specs.Reading.{find_member, text_in, is_blank, are_distinct, outer_key, is_known, is_listed, literal_part}
+use Rattle.tree_core.specs.Readable.{is_ascii, is_readable, are_readable}
+use Rattle.tree_core.specs.Reading.{find_member, text_in, units_in, is_blank, are_distinct, outer_key, is_known, is_listed, value_part}
 use Rattle.tree_nodes.specs.Table.{Column}
 
 -- ---- keys
@@ -103,9 +103,7 @@ word_is : (word bs : List ℕ) → IsUtf8 bs → IsTrue (is_ascii word) → byte
 word_is word bs u h = bytes_eq-swap word (units_of bs) ∙ bytes_eq-units_of bs word u (IsAscii-test word h) ∙ bytes_eq-swap bs word
 
 outer_key_is_ascii : (c : Column) → IsTrue (is_readable c) → IsTrue (is_ascii (outer_key c))
-outer_key_is_ascii c h =
-    let keys = (both (is_readable_class c.class) (is_ascii (outer_key c) && is_ascii c.key) h).1 in
-    (both (is_ascii (outer_key c)) (is_ascii c.key) keys).0
+outer_key_is_ascii c h = (both (is_ascii (outer_key c)) (is_ascii c.key) h).0
 
 is_listed-units_of : (bs : List ℕ) (cs : List Column) → IsUtf8 bs → IsTrue (are_readable cs) → is_listed (units_of bs) cs ≡ is_listed bs cs
 is_listed-units_of bs [] u h = refl
@@ -127,16 +125,12 @@ pub found_falls : (r : Option (Bor Value)) (key : List ℕ) (ms : Members) → o
 found_falls None key ms e = tt
 found_falls (Some v) key ms e = member_falls key ms (view v.now) (sym e)
 
--- ---- the keys of `regex`
+-- ---- one of two keys
 
-pub regex_key-units_of : (bs : List ℕ) → IsUtf8 bs
-    → (bytes_eq (units_of bs) (codes "pattern") || bytes_eq (units_of bs) (codes "flags"))
-    ≡ (bytes_eq bs (codes "pattern") || bytes_eq bs (codes "flags"))
-regex_key-units_of bs u =
-    rw (
-      bytes_eq-units_of bs (codes "pattern") u (IsAscii-test (codes "pattern") refl),
-      bytes_eq-units_of bs (codes "flags") u (IsAscii-test (codes "flags") refl),
-    ) refl
+pub either_key-units_of : (bs k l : List ℕ) → IsUtf8 bs → IsTrue (is_ascii k) → IsTrue (is_ascii l)
+    → (bytes_eq (units_of bs) k || bytes_eq (units_of bs) l) ≡ (bytes_eq bs k || bytes_eq bs l)
+either_key-units_of bs k l u h i =
+    rw (bytes_eq-units_of bs k u (IsAscii-test k h), bytes_eq-units_of bs l u (IsAscii-test l i)) refl
 
 -- ---- one value
 
@@ -146,11 +140,16 @@ view-String s = search (rules, the_lemmas)
 pub text_in-String : (s : String Global) → text_in (json_of (view (StringValue s))) ≡ Some (string_bytes s)
 text_in-String s = rw view-String (text_of_units-units_of (string_bytes s) (IsUtf8-string_bytes s))
 
+pub units_in-String : (s : String Global) → units_in (json_of (view (StringValue s))) ≡ Some (units_of (string_bytes s))
+units_in-String s =
+    let low = are_code_units-AreCodeUnits (units_of (string_bytes s)) (AreCodeUnits-units_of (string_bytes s) (IsUtf8-string_bytes s)) in
+    rw (view-String, low) refl
+
 pub is_blank_items : (vs : List Value) → nat_eq (length vs) 0 ≡ is_blank (json_of (array (items_view vs)))
 is_blank_items [] = grind arith
 is_blank_items (v ∷ vs) = grind arith
 
 -- an object with keys is no value of a Literal
-pub literal_part-members : (es : List Entry) → (length es ≡ 0 → ⊥) → literal_part (json_of (object (members_view es))) ≡ None
-literal_part-members [] h = absurd (h refl)
-literal_part-members (e ∷ es) h = refl
+pub value_part-members : (es : List Entry) → (length es ≡ 0 → ⊥) → value_part (json_of (object (members_view es))) ≡ None
+value_part-members [] h = absurd (h refl)
+value_part-members (e ∷ es) h = refl

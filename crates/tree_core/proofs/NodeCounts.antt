@@ -15,8 +15,7 @@ use Rattle.tree_nodes.specs.declared.table.Class.TheVariants.{Cooked, Flag, Flag
 use Rattle.tree_core.specs.JsonOf.{json_of, items_of, members_of, number_of}
 use Rattle.tree_core.specs.Limits.{is_too_large, has_long_part, objects_in, objects_in_items, objects_in_members}
 use Rattle.tree_core.specs.NodeCount.{nodes_in, node_count}
-use Rattle.tree_core.specs.Reading.{absent, are_distinct, below, find_member, is_listed, is_null_value, is_paired, items_from, list_of, literal_part, offset_of, one, only_known, or_hole, outer_key, part_from, part_in, regex_part, row_for, run_of, shape_from, shape_of, template_part, text_in, tree_of, units_in, value_part}
-use Rattle.tree_core.specs.Supported.{is_supported_value}
+use Rattle.tree_core.specs.Reading.{absent, are_distinct, below, find_member, is_listed, is_null_value, is_paired, items_from, list_of, offset_of, one, only_known, or_hole, outer_key, part_from, part_in, regex_part, row_for, run_of, shape_from, shape_of, template_part, text_in, tree_of, units_in, value_part}
 use Rattle.tree_nodes.proofs.Cases.{both, bytes_equal, bytes_same, if_some, map_some, neither, none_some, not_true, some_same, then_some}
 use Rattle.tree_core.proofs.Found.{part_found, part_in-part_found}
 use Rattle.tree_core.proofs.ReadFits.{row_of_object}
@@ -85,9 +84,6 @@ value_none (string us) p e = atom_none units (units_in (string us)) p e
 value_none (list ds) p e = atom_none units (units_in (list ds)) p e
 value_none (object no_members) p e = same_none (one empty) p e refl
 value_none (object (member k d ms)) p e = none_some p e
-
-literal_none : (d : Json) (p : Parts) → literal_part d ≡ Some p → nodes_in p ≡ 0
-literal_none d p e = value_none d p (if_some (is_supported_value d) (value_part d) p e).1
 
 regex_none : (k : List ℕ) (d : Json) (p : Parts) → regex_part k d ≡ Some p → nodes_in p ≡ 0
 regex_none k null p e = same_none (one empty) p e refl
@@ -181,7 +177,7 @@ part_count (Word w) k d p c e = of_datum (Word w) p (objects d) (atom_none word 
 part_count TextClass k d p c e = of_datum TextClass p (objects d) (atom_none text (text_in d) p e)
 part_count TextOr k d p c e = of_datum TextOr p (objects d) (null_none (is_null_value d) _ p e (λ f. atom_none text (text_in d) p f))
 part_count Name k d p c e = of_datum Name p (objects d) (name_none (text_in d) p e)
-part_count LiteralValue k d p c e = of_datum LiteralValue p (objects d) (literal_none d p e)
+part_count LiteralValue k d p c e = of_datum LiteralValue p (objects d) (value_none d p e)
 part_count Pattern k d p c e = of_datum Pattern p (objects d) (regex_none k d p e)
 part_count Flags k d p c e = of_datum Flags p (objects d) (regex_none k d p e)
 part_count Raw k d p c e = of_datum Raw p (objects d) (template_none false k d p e)
@@ -299,7 +295,7 @@ node_counted ms t counted e =
     let k = if_some (are_distinct ms && only_known r.0.columns ms && is_paired r.0.kind ms) _ t p.2 in
     let fs = map_some _ (run_of (λ c. part_in ms c) r.0.columns) t k.1 in
     let own = row_of_object ms r.0 r.1 in
-    let apart = subst (λ (x : Row). are_apart x.columns ≡ true) own.1 (row_apart r.0.kind) in
+    let apart = subst (λ (x : Row). are_apart x.columns ≡ true) own (row_apart r.0.kind) in
     let fields = run_count r.0.columns ms fs.0 counted apart fs.1 in
     let listed = all_listed r.0.columns ms in
     let below : suc (nodes_in fs.0) ≤ suc (member_objects ms) = omega arith in

@@ -7,8 +7,7 @@ use Rattle.json_text.specs.Units.{are_code_units, text_of_units, units_of}
 use Rattle.json_text.proofs.Units.{text_of_units-units_of, IsUtf8-text_of_units, AreCodeUnits-units_of, AreCodeUnits-are_code_units, are_code_units-AreCodeUnits, AreCodeUnits-text_of_units}
 use Rattle.syntax_lex.specs.Identifier.{is_identifier_name}
 use Rattle.tree_nodes.specs.Look.{onto}
-use Rattle.tree_core.specs.Reading.{absent, are_distinct, below, find_member, has_only, is_null_value, is_paired, items_from, list_of, literal_part, name_part, offset_of, one, only_known, or_hole, or_null, outer_key, part_from, part_in, regex_part, row_for, run_of, shape_from, shape_of, supported_row, template_part, text_in, units_in, units_in_list, word_number}
-use Rattle.tree_core.specs.Supported.{is_supported}
+use Rattle.tree_core.specs.Reading.{absent, are_distinct, below, find_member, has_only, is_null_value, is_paired, items_from, list_of, name_part, offset_of, one, only_known, or_hole, or_null, outer_key, part_from, part_in, regex_part, row_for, run_of, shape_from, shape_of, template_part, text_in, units_in, units_in_list, value_part, word_number}
 use Rattle.tree_nodes.specs.Table.{Column, Row, row, row_among, row_named, word_list}
 use Rattle.tree_nodes.specs.Tree.{Atom, Parts, Tree, Text, alone, atom, child, done, empty, flag, is_empty, many, text, units, whole, word}
 use Rattle.tree_nodes.specs.declared.kind.Kind.{Kind}
@@ -168,15 +167,15 @@ flag_fits (object ms) p e = none_some p e
 whole_back : (n : ℕ) → n < 2 ^ 64 → FitsAtom LiteralValue (whole n)
 whole_back n h = ((λ t ts. rw (lt-ltb n (2 ^ 64) h) refl), omega arith)
 
-value_fits : (d : Json) (p : Parts) → literal_part d ≡ Some p → FitsPart LiteralValue p
+value_fits : (d : Json) (p : Parts) → value_part d ≡ Some p → FitsPart LiteralValue p
 value_fits null p e = as_part LiteralValue (one empty) p e ((λ t ts. refl), tt)
 value_fits (truth b) p e = as_part LiteralValue (one (flag b)) p e ((λ t ts. refl), tt)
 value_fits (number n) p e =
     let a = map_some (λ k. one (whole k)) (below (2 ^ 64) (number n)) p e in
     subst (FitsPart LiteralValue) a.2 (whole_back a.0 (below_bound (2 ^ 64) (number n) a.0 a.1).1)
 value_fits other_number p e = none_some p e
-value_fits (string us) p e = none_some p e
-value_fits (list ds) p e = none_some p e
+value_fits (string us) p e = units_part LiteralValue (string us) p (λ x a. ((λ t ts. units_back x a), a)) e
+value_fits (list ds) p e = units_part LiteralValue (list ds) p (λ x a. ((λ t ts. units_back x a), a)) e
 value_fits (object no_members) p e = as_part LiteralValue (one empty) p e ((λ t ts. refl), tt)
 value_fits (object (member k d ms)) p e = none_some p e
 
@@ -390,16 +389,12 @@ row_found (k ∷ ks) name r e = here (bytes_eq (row k).name name) e (row_found k
     here true f later = (k, some_same (row k) r f)
     here false f later = later f
 
--- the row that is found for an object is that of its kind, which is supported
-pub row_of_object : (ms : Members) (r : Row) → row_for ms ≡ Some r → (is_supported r.kind ≡ true) × (row r.kind ≡ r)
+-- the row that is found for an object is that of its kind
+pub row_of_object : (ms : Members) (r : Row) → row_for ms ≡ Some r → row r.kind ≡ r
 row_of_object ms r e =
-    let a = then_some supported_row (option_and_then text_in (find_member (codes "type") ms)) r e in
-    let b = then_some (λ s. if is_supported s.kind then Some s else None) (row_named a.0) r a.2 in
-    let t = if_some (is_supported b.0.kind) (Some b.0) r b.2 in
-    let same = some_same b.0 r t.1 in
-    let f = row_found all_kinds a.0 b.0 b.1 in
-    let own : row r.kind ≡ r = ap row (ap (λ s. s.kind) (sym (f.1 ∙ same)) ∙ row_kind f.0) ∙ f.1 ∙ same in
-    (subst (λ s. is_supported s.kind ≡ true) same t.0, own)
+    let a = then_some row_named (option_and_then text_in (find_member (codes "type") ms)) r e in
+    let f = row_found all_kinds a.0 r a.2 in
+    ap row (ap (λ s. s.kind) (sym f.1) ∙ row_kind f.0) ∙ f.1
 
 node_fits : (ms : Members) (part : Column → Option Parts) (t : Tree) → AllFit part → AreTogether part
     → shape_from ms part ≡ Some t → Fits t
@@ -410,11 +405,11 @@ node_fits ms part t fit together e =
     let k = if_some (are_distinct ms && only_known r.0.columns ms && is_paired r.0.kind ms) _ t p.2 in
     let fs = map_some _ (run_of part r.0.columns) t k.1 in
     let own = row_of_object ms r.0 r.1 in
-    let followed = subst (λ x. are_followed x.columns ≡ true) own.1 (row_sound r.0.kind).followed in
+    let followed = subst (λ x. are_followed x.columns ≡ true) own (row_sound r.0.kind).followed in
     let fields = run_fits part fit together r.0.columns fs.0 followed fs.1 in
     let start_below = offset_below (find_member (codes "start") ms) s.0 s.1 in
     let end_below = offset_below (find_member (codes "end") ms) p.0 p.1 in
-    subst Fits fs.2 ((own.0, start_below, end_below), subst (λ x. FitFields fs.0 x.columns) (sym own.1) fields)
+    subst Fits fs.2 ((start_below, end_below), subst (λ x. FitFields fs.0 x.columns) (sym own) fields)
 
 here_or : (b : Bool) (c : Column) (p : Parts) (d : Json) (rest : Option Parts)
     → (if b then part_from c.class c.key d (shape_of d) (list_of d) else rest) ≡ Some p

@@ -1,4 +1,3 @@
-pub mod Supported
 pub mod Reading
 pub mod JsonOf
 pub mod Values

@@ -1,8 +1,6 @@
--- The columns that the reader takes: those of the rows of supported kinds.
-use Rattle.std.specs.Prelude.{ℕ, Bool, true, false, ◌&&◌, List, Option, option_map, nat_lt}
+-- The columns that the reader takes, which all rows have, and what it reads in them.
+use Rattle.std.specs.Prelude.{ℕ, Bool, ◌&&◌, List, Option, option_map, nat_lt}
 use Rattle.std.specs.List.{list_all}
-use Rattle.tree_nodes.specs.declared.table.Class.{Class as FieldClass}
-use Rattle.tree_nodes.specs.declared.table.Class.TheVariants.{Flag, Flags, Word, Text, TextOr, Name, LiteralValue, Pattern, One, Maybe, Many, ManyOr, Holes}
 use Rattle.json_text.specs.Json.{Json, Members}
 use Rattle.tree_core.specs.Reading.{outer_key, run_of, part_in, part_from, shape_of, list_of, or_hole}
 use Rattle.tree_nodes.specs.Table.{Column}
@@ -12,25 +10,9 @@ use Rattle.tree_nodes.specs.Tree.{Parts, alone}
 abbrev pub is_ascii : List ℕ → Bool
 is_ascii key = list_all (λ b. nat_lt b 128) key
 
--- the classes of field that these rows have
-abbrev pub is_readable_class : FieldClass → Bool
-is_readable_class Flag = true
-is_readable_class (Word w) = true
-is_readable_class Text = true
-is_readable_class TextOr = true
-is_readable_class Name = true
-is_readable_class LiteralValue = true
-is_readable_class Pattern = true
-is_readable_class Flags = true
-is_readable_class (One g) = true
-is_readable_class (Maybe g) = true
-is_readable_class (Many g) = true
-is_readable_class (ManyOr g) = true
-is_readable_class (Holes g) = true
-is_readable_class _ = false
-
+-- its keys are their own code units
 abbrev pub is_readable : Column → Bool
-is_readable c = is_readable_class c.class && (is_ascii (outer_key c) && is_ascii c.key)
+is_readable c = is_ascii (outer_key c) && is_ascii c.key
 
 -- the field that a value is in a column
 abbrev pub field_from : Column → Json → Option Parts

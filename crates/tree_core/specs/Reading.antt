@@ -8,7 +8,6 @@ use Rattle.json_text.specs.Units.{are_code_units, text_of_units}
 use Rattle.syntax_lex.specs.Identifier.{is_identifier_name}
 use Rattle.tree_nodes.specs.Look.{onto}
 use Rattle.tree_nodes.specs.Standing.{is_placed}
-use Rattle.tree_core.specs.Supported.{is_supported, is_supported_value}
 use Rattle.tree_nodes.specs.Table.{Column, Row, row_named, word_list}
 use Rattle.tree_nodes.specs.Tree.{Atom, Parts, Text, Tree, alone, atom, done, empty, flag, many, text, units, whole, word}
 use Rattle.tree_nodes.specs.declared.kind.Kind.{Kind}
@@ -72,6 +71,7 @@ one a = atom a done
 abbrev pub or_null : Json → Option Parts → Option Parts
 or_null d p = if is_null_value d then Some (one empty) else p
 
+-- of a Literal's value
 abbrev pub value_part : Json → Option Parts
 value_part null = Some (one empty)
 value_part (truth b) = Some (one (flag b))
@@ -81,10 +81,6 @@ value_part (string us) = option_map (λ x. one (units x)) (units_in (string us))
 value_part (list ds) = option_map (λ x. one (units x)) (units_in (list ds))
 value_part (object no_members) = Some (one empty)
 value_part (object (member k d ms)) = None
-
--- of a Literal's value
-abbrev pub literal_part : Json → Option Parts
-literal_part d = if is_supported_value d then value_part d else None
 
 -- of an identifier name
 abbrev pub name_part : Json → Option Parts
@@ -146,7 +142,7 @@ part_from (Word w) k d t ts = option_map (λ n. one (word n)) (option_and_then (
 part_from TextClass k d t ts = option_map (λ x. one (text x)) (text_in d)
 part_from TextOr k d t ts = or_null d (option_map (λ x. one (text x)) (text_in d))
 part_from Name k d t ts = name_part d
-part_from LiteralValue k d t ts = literal_part d
+part_from LiteralValue k d t ts = value_part d
 part_from Pattern k d t ts = regex_part k d
 part_from Flags k d t ts = regex_part k d
 part_from Raw k d t ts = template_part false k d
@@ -185,12 +181,9 @@ abbrev pub run_of : (Column → Option Parts) → List Column → Option Parts
 run_of part [] = Some done
 run_of part (c ∷ cs) = option_and_then (λ p. option_map (onto p) (run_of part cs)) (part c)
 
--- the row of a supported kind, by its name
-abbrev pub supported_row : Text → Option Row
-supported_row name = option_and_then (λ r. if is_supported r.kind then Some r else None) (row_named name)
-
+-- the row of the kind that an object names
 abbrev pub row_for : Members → Option Row
-row_for ms = option_and_then supported_row (option_and_then text_in (find_member (codes "type") ms))
+row_for ms = option_and_then row_named (option_and_then text_in (find_member (codes "type") ms))
 
 -- the tree whose shape an object has, by the parts that its fields are
 abbrev pub shape_from : Members → (Column → Option Parts) → Option Tree

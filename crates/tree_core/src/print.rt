@@ -321,6 +321,7 @@ fn write_part<S: Serializer>(
         Field::Flag(flag) => flag.serialize(serializer),
         Field::Word(number) => JsonStr(word_text(class, *number)).serialize(serializer),
         Field::Text(text) => JsonStr(text.as_str()).serialize(serializer),
+        Field::Str(units) => units.as_js_str().serialize(serializer),
         Field::Whole(number) => number.serialize(serializer),
         Field::Child(node) => write_node(node, serializer),
         Field::List(nodes) => write_nodes(nodes, serializer),

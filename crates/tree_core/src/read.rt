@@ -13,14 +13,14 @@ ghost use Rattle.tree_core.specs.ReadError.{Says};
 ghost use Rattle.tree_core.specs.Reading as reading;
 ghost use Rattle.tree_core.specs.Reading.{tree_of};
 ghost use Rattle.tree_nodes.specs.Rows.{row_of, column_of};
-ghost use Rattle.tree_core.specs.Supported as spec;
 ghost use Rattle.tree_nodes.specs.Table.{word_list};
 ghost use Rattle.json_text.specs.Json.{object};
-ghost use Rattle.tree_nodes.specs.Tree.{text, many, done, alone};
+ghost use Rattle.tree_nodes.specs.Tree.{text, units, many, done, alone};
 ghost use Rattle.tree_nodes.specs.Views.{part_of, parts_of, item_of, items_of};
 
 use crate::limits::is_too_large;
 use crate::program::Program;
+use oxc_str::JSText;
 use serde_json::{Map, Value};
 use std::alloc::{AllocError, AllocFailed, Global};
 use syntax_lex::identifier::is_identifier_name;
@@ -227,37 +227,14 @@ fn is_paired(kind: Kind, members: &Map<String, Value>) -> bool
         || is_object(member(members, "regex"))
 }
 
-// The row of the object's kind, where the reader takes it.
+// The row of the kind that an object names.
 fn row_for(members: &Map<String, Value>) -> Option<&'static Row>
     ensures row { option_map (λ r. row_of r.now) result
         ≡ reading.row_for (json.members_of (members_view members.now.entries)) }
     ensures readable { IfSome result
         (λ r. IsTrue (are_readable (map column_of r.now.columns.now))) }
 {
-    let row = row_named(text_in(member(members, "type")?)?)?;
-    if is_supported(row.kind) {
-        Some(row)
-    } else {
-        None
-    }
-}
-
-// The kinds of nodes that the reader takes.
-const SUPPORTED: [Kind; 7] = [
-    Kind::Program,
-    Kind::ExpressionStatement,
-    Kind::VariableDeclaration,
-    Kind::VariableDeclarator,
-    Kind::CallExpression,
-    Kind::Identifier,
-    Kind::Literal,
-];
-
-#[tactic(auto, unfolding(crate::specs::Supported::is_supported))]
-fn is_supported(kind: Kind) -> bool
-    ensures { result ≡ spec.is_supported kind }
-{
-    kind.is_among(&SUPPORTED)
+    row_named(text_in(member(members, "type")?)?)
 }
 
 // A field that is missing.
@@ -324,42 +301,109 @@ fn whole_number(value: &Value) -> Option<u64>
     }
 }
 
-// The field that a Literal's value is.
-fn literal_value(value: &Value) -> Option<Field>
-    ensures { option_map part_of result ≡ reading.literal_part (json_of (view value.now)) }
+// A code unit.
+fn read_unit(value: &Value) -> Result<u16, ReadError>
+    ensures ok { IfOk result (λ u. reading.below (2 ^ 16) (json_of (view value.now)) ≡ Some u) }
+    ensures err { IfErr result
+        (λ e. Says e (reading.below (2 ^ 16) (json_of (view value.now)) ≡ None)) }
 {
-    match value {
-        Value::Null => Some(Field::Empty),
-        Value::Bool(truth) => Some(Field::Flag(*truth)),
-        Value::Number(_) => Some(Field::Whole(whole_number(value)?)),
-        Value::Object(members) => {
-            if members.is_empty() {
-                Some(Field::Empty)
-            } else {
-                None
-            }
-        }
-        Value::String(_) | Value::Array(_) => None,
+    match below(65_536, value) {
+        Some(unit) => Ok(unit as u16),
+        None => Err(ReadError::BadTree),
     }
 }
 
-// Whether a key is one of those of `regex`.
-fn is_regex_key(key: &str) -> bool
-    ensures { result ≡ (bytes_eq (units_of key.now) (codes "pattern")
-        || bytes_eq (units_of key.now) (codes "flags")) }
+// The code units that a list holds.
+fn read_unit_list(alloc: Global, items: &Vec<Value>) -> Result<Vec<u16>, ReadError>
+    ensures ok { IfOk result (λ us.
+        reading.units_in_list (json.items_of (items_view items.now.items)) ≡ Some us.items) }
+    ensures err { IfErr result (λ e. Says e
+        (reading.units_in_list (json.items_of (items_view items.now.items)) ≡ None)) }
 {
-    key == "pattern" || key == "flags"
+    let mut units = Vec::with_capacity(alloc, items.len())?;
+    for item in items {
+        units.push(read_unit(item)?)?;
+    }
+    Ok(units)
 }
 
-// Whether an object has the keys of `regex` and no others.
-fn is_regex(members: &Map<String, Value>) -> bool
-    ensures keys { result ≡ reading.has_only (codes "pattern") (codes "flags")
+// A copy of a string.
+fn string_field(alloc: Global, content: &str) -> Result<Field, AllocError>
+    ensures { IfOk result (λ f. part_of f ≡ reading.one (units (units_of content.now))) }
+{
+    Ok(Field::Str(JSText::from_str(alloc, content)?))
+}
+
+// A copy of code units.
+fn units_field(alloc: Global, content: &[u16]) -> Result<Field, AllocError>
+    ensures { IfOk result (λ f. part_of f ≡ reading.one (units content.now)) }
+{
+    Ok(Field::Str(JSText::from_units(alloc, content)?))
+}
+
+// A string, or a list of code units.
+fn read_units(alloc: Global, value: &Value) -> Result<Field, ReadError>
+    ensures ok { IfOk result (λ f. option_map (λ us. reading.one (units us))
+        (reading.units_in (json_of (view value.now))) ≡ Some (part_of f)) }
+    ensures err { IfErr result (λ e. Says e (option_map (λ us. reading.one (units us))
+        (reading.units_in (json_of (view value.now))) ≡ None)) }
+{
+    match value {
+        Value::String(text) => Ok(string_field(alloc, text.as_str())?),
+        Value::Array(items) => {
+            let units = read_unit_list(alloc, items)?;
+            Ok(units_field(alloc, units.as_slice())?)
+        }
+        _ => Err(ReadError::BadTree),
+    }
+}
+
+// The field that a Literal's value is.
+fn read_literal(alloc: Global, value: &Value) -> Result<Field, ReadError>
+    ensures ok { IfOk result
+        (λ f. reading.value_part (json_of (view value.now)) ≡ Some (part_of f)) }
+    ensures err { IfErr result
+        (λ e. Says e (reading.value_part (json_of (view value.now)) ≡ None)) }
+{
+    match value {
+        Value::Null => Ok(Field::Empty),
+        Value::Bool(truth) => Ok(Field::Flag(*truth)),
+        Value::Number(_) => match whole_number(value) {
+            Some(number) => Ok(Field::Whole(number)),
+            None => Err(ReadError::BadTree),
+        },
+        Value::String(_) | Value::Array(_) => read_units(alloc, value),
+        Value::Object(members) => {
+            if members.is_empty() {
+                Ok(Field::Empty)
+            } else {
+                Err(ReadError::BadTree)
+            }
+        }
+    }
+}
+
+// Whether a key is one of these two.
+fn is_one_of(key: &str, first: &str, second: &str) -> bool
+    requires first { IsTrue (is_ascii first.now) }
+    requires second { IsTrue (is_ascii second.now) }
+    ensures { result ≡ (bytes_eq (units_of key.now) first.now
+        || bytes_eq (units_of key.now) second.now) }
+{
+    key == first || key == second
+}
+
+// Whether an object has these two keys and no others.
+fn has_only(first: &str, second: &str, members: &Map<String, Value>) -> bool
+    requires first { IsTrue (is_ascii first.now) }
+    requires second { IsTrue (is_ascii second.now) }
+    ensures keys { result ≡ reading.has_only first.now second.now
         (json.members_of (members_view members.now.entries)) }
     ensures distinct { reading.are_distinct (json.members_of (members_view members.now.entries))
         ≡ true }
 {
     for (key, _) in members.iter() {
-        if !is_regex_key(key.as_str()) {
+        if !is_one_of(key.as_str(), first, second) {
             return false;
         }
     }
@@ -392,12 +436,65 @@ fn read_regex_text(
     ensures err { IfErr result (λ e. Says e (reading.regex_part key.now
         (object (json.members_of (members_view members.now.entries))) ≡ None)) }
 {
-    if !is_regex(members) {
+    if !has_only("pattern", "flags", members) {
         return Err(ReadError::BadTree);
     }
     match member(members, key) {
         Some(value) => read_text(alloc, value),
         None => Err(ReadError::BadTree),
+    }
+}
+
+// The code units under a key of a template element's `value`, which may be missing or null where
+// they are `optional`.
+fn read_template(
+    alloc: Global,
+    value: &Value,
+    key: &str,
+    optional: bool,
+) -> Result<Field, ReadError>
+    requires { IsTrue (is_ascii key.now) }
+    ensures ok { IfOk result (λ f.
+        reading.template_part optional key.now (json_of (view value.now)) ≡ Some (part_of f)) }
+    ensures err { IfErr result (λ e. Says e
+        (reading.template_part optional key.now (json_of (view value.now)) ≡ None)) }
+{
+    match value {
+        Value::Object(members) => read_template_text(alloc, members, key, optional),
+        _ => Err(ReadError::BadTree),
+    }
+}
+
+fn read_template_text(
+    alloc: Global,
+    members: &Map<String, Value>,
+    key: &str,
+    optional: bool,
+) -> Result<Field, ReadError>
+    requires { IsTrue (is_ascii key.now) }
+    ensures ok { IfOk result (λ f. reading.template_part optional key.now
+        (object (json.members_of (members_view members.now.entries))) ≡ Some (part_of f)) }
+    ensures err { IfErr result (λ e. Says e (reading.template_part optional key.now
+        (object (json.members_of (members_view members.now.entries))) ≡ None)) }
+{
+    if !has_only("raw", "cooked", members) {
+        return Err(ReadError::BadTree);
+    }
+    match member(members, key) {
+        Some(value) => {
+            if optional && is_null(value) {
+                Ok(Field::Empty)
+            } else {
+                read_units(alloc, value)
+            }
+        }
+        None => {
+            if optional {
+                Ok(Field::Empty)
+            } else {
+                Err(ReadError::BadTree)
+            }
+        }
     }
 }
 
@@ -508,11 +605,10 @@ fn read_part(alloc: Global, value: &Value, column: &Column) -> Result<Field, Rea
             }
         }
         Class::Name => read_name(alloc, value),
-        Class::LiteralValue => match literal_value(value) {
-            Some(field) => Ok(field),
-            None => Err(ReadError::BadTree),
-        },
+        Class::LiteralValue => read_literal(alloc, value),
         Class::Pattern | Class::Flags => read_regex(alloc, value, column.key),
+        Class::Raw => read_template(alloc, value, column.key, false),
+        Class::Cooked => read_template(alloc, value, column.key, true),
         Class::One(_) => read_child(alloc, value),
         Class::Maybe(_) => {
             if is_null(value) {
@@ -523,7 +619,6 @@ fn read_part(alloc: Global, value: &Value, column: &Column) -> Result<Field, Rea
         }
         Class::Many(_) | Class::ManyOr(_) => read_list(alloc, value, false),
         Class::Holes(_) => read_list(alloc, value, true),
-        _ => Err(ReadError::BadTree),
     }
 }
 

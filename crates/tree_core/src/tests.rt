@@ -1,5 +1,7 @@
 //! What the reader takes and refuses, and how a program is looked into.
 
+mod kinds;
+
 use crate::{Field, Program, ReadError, SourceType, read_tree};
 use oxc_estree::{CompactFormatter, ConfigFixes, ESTreeSerializer};
 use serde_json::Value;
@@ -91,12 +93,9 @@ fn values_that_are_programs(rt: HostRuntime) -> Result<(), Fail> {
     Ok(())
 }
 
-// What is printed of a module with this body, and the paths to its marks, or why it is not read.
-fn answer(alloc: Global, body: &str) -> Result<String, Fail> {
-    let module = format!(in alloc;
-        "{{\"type\":\"Program\",\"body\":[{body}],\"sourceType\":\"module\"}}"
-    )?;
-    match read(alloc, module.as_str(), 0)? {
+// What is printed of a program, and the paths to its marks, or why it is not read.
+fn printed(alloc: Global, program: &str) -> Result<String, Fail> {
+    match read(alloc, program, 0)? {
         Ok(program) => {
             let serializer = ESTreeSerializer::<ConfigFixes, CompactFormatter>::new(
                 alloc, false, false,
@@ -105,6 +104,14 @@ fn answer(alloc: Global, body: &str) -> Result<String, Fail> {
         }
         Err(error) => Ok(format!(in alloc; "{error}")?),
     }
+}
+
+// The same of a module with this body.
+fn answer(alloc: Global, body: &str) -> Result<String, Fail> {
+    let module = format!(in alloc;
+        "{{\"type\":\"Program\",\"body\":[{body}],\"sourceType\":\"module\"}}"
+    )?;
+    printed(alloc, module.as_str())
 }
 
 // The answer where this is printed of the body.
@@ -161,6 +168,27 @@ fn literals_are_read_and_printed(rt: HostRuntime) -> Result<(), Fail> {
             "[]",
         ),
         (
+            "\"value\":\"a\\ud83d\\ude00\",\"raw\":\"'a'\"",
+            "\"value\":\"a😀\",\"raw\":\"'a'\"",
+            "[]",
+        ),
+        (
+            "\"value\":[55296]",
+            "\"value\":\"\\ud800\",\"raw\":null",
+            "[]",
+        ),
+        (
+            "\"value\":[55357,56832]",
+            "\"value\":\"😀\",\"raw\":null",
+            "[]",
+        ),
+        (
+            "\"value\":[56832,55357,97]",
+            "\"value\":\"\\ude00\\ud83da\",\"raw\":null",
+            "[]",
+        ),
+        ("\"value\":[]", "\"value\":\"\",\"raw\":null", "[]"),
+        (
             "\"value\":false,\"raw\":\"false\",\"regex\":null,\"bigint\":null",
             "\"value\":false,\"raw\":\"false\"",
             "[]",
@@ -198,6 +226,68 @@ fn literals_are_read_and_printed(rt: HostRuntime) -> Result<(), Fail> {
 }
 
 #[test]
+fn template_elements_are_read_and_printed(rt: HostRuntime) -> Result<(), Fail> {
+    let alloc = rt.alloc();
+    for (value, printed) in [
+        (
+            "\"cooked\":\"a\",\"raw\":\"a\"",
+            "\"raw\":\"a\",\"cooked\":\"a\"",
+        ),
+        ("\"raw\":\"\\\\u\"", "\"raw\":\"\\\\u\",\"cooked\":null"),
+        (
+            "\"raw\":\"\\\\u\",\"cooked\":null",
+            "\"raw\":\"\\\\u\",\"cooked\":null",
+        ),
+        (
+            "\"raw\":[92,55296],\"cooked\":[55296]",
+            "\"raw\":\"\\\\\\ud800\",\"cooked\":\"\\ud800\"",
+        ),
+    ] {
+        let body = format!(in alloc;
+            "{{\"type\":\"ExpressionStatement\",\"expression\":{{\"type\":\"TemplateLiteral\",\"expressions\":[],\"quasis\":[{{\"type\":\"TemplateElement\",\"value\":{{{value}}},\"tail\":true}}]}}}}"
+        )?;
+        let printed = format!(in alloc;
+            "{{\"type\":\"ExpressionStatement\",\"start\":0,\"end\":0,\"expression\":{{\"type\":\"TemplateLiteral\",\"start\":0,\"end\":0,\"quasis\":[{{\"type\":\"TemplateElement\",\"start\":0,\"end\":0,\"value\":{{{printed}}},\"tail\":true}}],\"expressions\":[]}}}}"
+        )?;
+        assert_eq!(rt;
+            answer(alloc, body.as_str())?.as_str(),
+            whole(alloc, printed.as_str(), "[]")?.as_str()
+        );
+    }
+    Ok(())
+}
+
+// As `1n; /a/g;`, and fields of other parsers that hold nothing.
+#[test]
+fn what_json_lacks_is_marked(rt: HostRuntime) -> Result<(), Fail> {
+    let alloc = rt.alloc();
+    let body =
+        "{\"type\":\"ExpressionStatement\",\"expression\":{\"type\":\"Literal\",\"value\":null,\"raw\":\"1n\",\"bigint\":\"1\"}},{\"type\":\"ExpressionStatement\",\"expression\":{\"type\":\"Literal\",\"value\":{},\"raw\":\"/a/g\",\"regex\":{\"pattern\":\"a\",\"flags\":\"g\"}}}";
+    let printed =
+        "{\"type\":\"ExpressionStatement\",\"start\":0,\"end\":0,\"expression\":{\"type\":\"Literal\",\"start\":0,\"end\":0,\"value\":null,\"raw\":\"1n\",\"bigint\":\"1\"}},{\"type\":\"ExpressionStatement\",\"start\":0,\"end\":0,\"expression\":{\"type\":\"Literal\",\"start\":0,\"end\":0,\"value\":null,\"raw\":\"/a/g\",\"regex\":{\"pattern\":\"a\",\"flags\":\"g\"}}}";
+    let fixes = "[[\"body\",0,\"expression\"],[\"body\",1,\"expression\"]]";
+    assert_eq!(rt;
+        answer(alloc, body)?.as_str(),
+        whole(alloc, printed, fixes)?.as_str()
+    );
+    Ok(())
+}
+
+#[test]
+fn fields_that_hold_nothing_are_left_out(rt: HostRuntime) -> Result<(), Fail> {
+    let alloc = rt.alloc();
+    let body =
+        "{\"type\":\"ExpressionStatement\",\"expression\":{\"type\":\"ImportExpression\",\"source\":{\"type\":\"Identifier\",\"name\":\"a\",\"decorators\":[],\"optional\":false},\"phase\":null}}";
+    let printed =
+        "{\"type\":\"ExpressionStatement\",\"start\":0,\"end\":0,\"expression\":{\"type\":\"ImportExpression\",\"start\":0,\"end\":0,\"source\":{\"type\":\"Identifier\",\"start\":0,\"end\":0,\"name\":\"a\"},\"options\":null}}";
+    assert_eq!(rt;
+        answer(alloc, body)?.as_str(),
+        whole(alloc, printed, "[]")?.as_str()
+    );
+    Ok(())
+}
+
+#[test]
 fn expressions_that_are_none(rt: HostRuntime) -> Result<(), Fail> {
     let alloc = rt.alloc();
     for expression in [
@@ -211,7 +301,7 @@ fn expressions_that_are_none(rt: HostRuntime) -> Result<(), Fail> {
         "{\"type\":\"CallExpression\",\"callee\":{\"type\":\"Identifier\",\"name\":\"f\"}}",
         "{\"type\":\"CallExpression\",\"callee\":{\"type\":\"Identifier\",\"name\":\"f\"},\"arguments\":[null]}",
         "{\"type\":\"VariableDeclaration\",\"kind\":\"let\",\"declarations\":[]}",
-        "{\"type\":\"ThisExpression\"}",
+        "{\"type\":\"Super\"}",
         "{\"type\":\"Literal\",\"value\":1.5,\"raw\":\"1.5\"}",
         "{\"type\":\"Literal\",\"value\":-1,\"raw\":\"-1\"}",
         "{\"type\":\"Literal\",\"value\":18446744073709551616}",
@@ -225,9 +315,19 @@ fn expressions_that_are_none(rt: HostRuntime) -> Result<(), Fail> {
         "{\"type\":\"Literal\",\"regex\":\"a\"}",
         "{\"type\":\"Literal\",\"value\":1,\"bigint\":\"1\"}",
         "{\"type\":\"Literal\",\"bigint\":1}",
-        // Strings are not taken so far.
-        "{\"type\":\"Literal\",\"value\":\"a\",\"raw\":\"'a'\"}",
-        "{\"type\":\"Literal\",\"value\":[97],\"raw\":\"'a'\"}",
+        "{\"type\":\"Literal\",\"value\":[65536]}",
+        "{\"type\":\"Literal\",\"value\":[-1]}",
+        "{\"type\":\"Literal\",\"value\":[97.0]}",
+        "{\"type\":\"Literal\",\"value\":[\"a\"]}",
+        "{\"type\":\"Literal\",\"value\":\"a\",\"bigint\":\"1\"}",
+        "{\"type\":\"Literal\",\"value\":[],\"regex\":{\"pattern\":\"a\",\"flags\":\"g\"}}",
+        "{\"type\":\"TemplateLiteral\",\"expressions\":[],\"quasis\":[{\"type\":\"TemplateElement\"}]}",
+        "{\"type\":\"TemplateLiteral\",\"expressions\":[],\"quasis\":[{\"type\":\"TemplateElement\",\"value\":null}]}",
+        "{\"type\":\"TemplateLiteral\",\"expressions\":[],\"quasis\":[{\"type\":\"TemplateElement\",\"value\":{\"cooked\":\"a\"}}]}",
+        "{\"type\":\"TemplateLiteral\",\"expressions\":[],\"quasis\":[{\"type\":\"TemplateElement\",\"value\":{\"raw\":null}}]}",
+        "{\"type\":\"TemplateLiteral\",\"expressions\":[],\"quasis\":[{\"type\":\"TemplateElement\",\"value\":{\"raw\":\"a\",\"cooked\":1}}]}",
+        "{\"type\":\"TemplateLiteral\",\"expressions\":[],\"quasis\":[{\"type\":\"TemplateElement\",\"value\":{\"raw\":\"a\",\"tail\":null}}]}",
+        "{\"type\":\"ObjectExpression\",\"properties\":[{\"type\":\"Property\",\"kind\":\"init\",\"key\":{\"type\":\"Identifier\",\"name\":\"a\"},\"value\":{\"type\":\"Identifier\",\"name\":\"b\"},\"shorthand\":true}]}",
     ] {
         let body = format!(in alloc;
             "{{\"type\":\"ExpressionStatement\",\"expression\":{expression}}}"

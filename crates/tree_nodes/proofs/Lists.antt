@@ -4,13 +4,14 @@ use Rattle.tree_nodes.specs.Tree.{Tree, Parts, done, atom, child, many, before, 
 use Rattle.tree_nodes.specs.Look.{parts_size, part_size, parts_len, part_at, item_at, item_size, are_items, past, onto}
 use Rattle.tree_nodes.specs.Views.{part_of, parts_of, item_of, items_of}
 use Rattle.tree_nodes.specs.declared.node.Field.{Field}
-use Rattle.tree_nodes.specs.declared.node.Field.TheVariants.{Empty, Flag, Word, Text, Whole, Child, List as Several}
+use Rattle.tree_nodes.specs.declared.node.Field.TheVariants.{Empty, Flag, Word, Text, Str, Whole, Child, List as Several}
 
 pub parts_len-put : (f : Field) (ps : Parts) → parts_len (onto (part_of f) ps) ≡ suc (parts_len ps)
 parts_len-put Empty ps = refl
 parts_len-put (Flag b) ps = refl
 parts_len-put (Word w) ps = refl
 parts_len-put (Text t) ps = refl
+parts_len-put (Str us) ps = refl
 parts_len-put (Whole n) ps = refl
 parts_len-put (Child b) ps = refl
 parts_len-put (Several ts) ps = refl
@@ -24,6 +25,7 @@ part_at-put Empty ps = refl
 part_at-put (Flag b) ps = refl
 part_at-put (Word w) ps = refl
 part_at-put (Text t) ps = refl
+part_at-put (Str us) ps = refl
 part_at-put (Whole n) ps = refl
 part_at-put (Child b) ps = refl
 part_at-put (Several ts) ps = refl
@@ -33,6 +35,7 @@ part_at-past Empty ps i = refl
 part_at-past (Flag b) ps i = refl
 part_at-past (Word w) ps i = refl
 part_at-past (Text t) ps i = refl
+part_at-past (Str us) ps i = refl
 part_at-past (Whole n) ps i = refl
 part_at-past (Child b) ps i = refl
 part_at-past (Several ts) ps i = refl

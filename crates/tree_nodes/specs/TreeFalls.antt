@@ -6,7 +6,7 @@ use Rattle.tree_nodes.specs.Tree.{Tree}
 use Rattle.tree_nodes.specs.Look.{parts_size, tree_size, part_size}
 use Rattle.tree_nodes.specs.Views.{part_of, parts_of, items_of}
 use Rattle.tree_nodes.specs.declared.node.Field.{Field}
-use Rattle.tree_nodes.specs.declared.node.Field.TheVariants.{Empty, Flag, Word, Text, Whole, Child, List as Several}
+use Rattle.tree_nodes.specs.declared.node.Field.TheVariants.{Empty, Flag, Word, Text, Str, Whole, Child, List as Several}
 use Rattle.tree_nodes.specs.declared.node.FieldList.TheDeep.{deep-Field}
 use Rattle.tree_nodes.specs.declared.node.FieldList.TheShapes.{weighed-NodeList-items-at-1}
 
@@ -15,6 +15,7 @@ part_falls Empty = omega arith
 part_falls (Flag b) = omega arith
 part_falls (Word w) = omega arith
 part_falls (Text t) = omega arith
+part_falls (Str us) = omega arith
 part_falls (Whole n) = omega arith
 part_falls (Child b) = omega arith
 part_falls (Several ts) = omega arith
@@ -24,6 +25,7 @@ put_size Empty fs = omega arith
 put_size (Flag b) fs = omega arith
 put_size (Word w) fs = omega arith
 put_size (Text t) fs = omega arith
+put_size (Str us) fs = omega arith
 put_size (Whole n) fs = omega arith
 put_size (Child b) fs = omega arith
 put_size (Several ts) fs = omega arith

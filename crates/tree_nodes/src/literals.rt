@@ -89,6 +89,7 @@ fn by_value(value: &Field) -> LiteralCase
 {
     match value {
         Field::Flag(_) => LiteralCase::Boolean,
+        Field::Str(_) => LiteralCase::Text,
         Field::Whole(_) => LiteralCase::Number,
         _ => LiteralCase::NoCase,
     }

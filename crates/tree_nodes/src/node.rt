@@ -4,6 +4,7 @@ ghost use Rattle.std.specs.Prelude.{◌≡◌, IfOk, option_map, option_copied, 
 
 use crate::kind::Kind;
 use crate::text::TreeText;
+use oxc_str::JSText;
 use std::alloc::{AllocError, Global};
 use std::marker::Model;
 
@@ -29,6 +30,8 @@ pub enum Field {
     Flag(bool),
     Word(u8),
     Text(TreeText),
+    /// Code units, of which a surrogate may stand alone.
+    Str(JSText),
     Whole(u64),
     Child(Box<Node>),
     List(NodeList),
@@ -227,6 +230,7 @@ impl Field {
             Field::Flag(b) => Ok(Field::Flag(*b)),
             Field::Word(w) => Ok(Field::Word(*w)),
             Field::Text(t) => Ok(Field::Text(t.try_clone(alloc)?)),
+            Field::Str(units) => Ok(Field::Str(units.try_clone(alloc)?)),
             Field::Whole(n) => Ok(Field::Whole(*n)),
             Field::Child(node) => Ok(Field::Child(Box::new(alloc, node.try_clone(alloc)?)?)),
             Field::List(nodes) => Ok(Field::List(nodes.try_clone(alloc)?)),

@@ -4,7 +4,7 @@ use Rattle.tree_nodes.specs.Look.{onto}
 use Rattle.tree_nodes.specs.Tree.{Parts}
 use Rattle.tree_nodes.specs.Views.{part_of, parts_of}
 use Rattle.tree_nodes.specs.declared.node.Field.{Field}
-use Rattle.tree_nodes.specs.declared.node.Field.TheVariants.{Empty, Flag, Word, Text, Whole, Child, List as Several}
+use Rattle.tree_nodes.specs.declared.node.Field.TheVariants.{Empty, Flag, Word, Text, Str, Whole, Child, List as Several}
 use Rattle.tree_rename.specs.Renamed.{off_at}
 
 off_first : (f : Field) (p : Parts) → off_at 0 (onto (part_of f) p) ≡ onto (off_at 0 (part_of f)) p
@@ -13,6 +13,7 @@ off_first Empty p = refl
 off_first (Flag b) p = refl
 off_first (Word w) p = refl
 off_first (Text t) p = refl
+off_first (Str us) p = refl
 off_first (Whole n) p = refl
 off_first (Child b) p = refl
 off_first (Several ts) p = refl
@@ -23,6 +24,7 @@ off_later Empty p i = refl
 off_later (Flag b) p i = refl
 off_later (Word w) p i = refl
 off_later (Text t) p i = refl
+off_later (Str us) p i = refl
 off_later (Whole n) p i = refl
 off_later (Child b) p i = refl
 off_later (Several ts) p i = refl

@@ -8,7 +8,7 @@ use Rattle.tree_nodes.specs.Look.{item_size, onto, part_size, parts_size}
 use Rattle.tree_nodes.specs.Tree.{Parts, Text, Tree, atom, done}
 use Rattle.tree_nodes.specs.Views.{item_of, items_of, part_of, parts_of}
 use Rattle.tree_nodes.specs.declared.node.Field.{Field}
-use Rattle.tree_nodes.specs.declared.node.Field.TheVariants.{Empty, Flag, Word, Text as FieldText, Whole, Child, List as Several}
+use Rattle.tree_nodes.specs.declared.node.Field.TheVariants.{Empty, Flag, Word, Text as FieldText, Str, Whole, Child, List as Several}
 use Rattle.tree_rename.proofs.Runs.{count-onto, drop_both, onto_assoc, onto_done, renamed-onto}
 use Rattle.tree_rename.specs.Renamed.{count, renamed}
 
@@ -93,6 +93,7 @@ field_size Empty p = omega arith
 field_size (Flag b) p = omega arith
 field_size (Word w) p = omega arith
 field_size (FieldText t) p = omega arith
+field_size (Str us) p = omega arith
 field_size (Whole n) p = omega arith
 field_size (Child b) p = omega arith
 field_size (Several ts) p = omega arith

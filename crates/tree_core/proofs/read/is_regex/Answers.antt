@@ -1,8 +1,0 @@
-use Rattle.tree_core.proofs.Members.{are_distinct-ordered}
-use Rattle.tree_core.proofs.read.is_regex.Goals as goal
-
-pub returns-then-not-is_regex_key-clause-distinct : goal.returns-then-not-is_regex_key-clause-distinct
-returns-then-not-is_regex_key-clause-distinct c = are_distinct-ordered c.args.members.now.entries c.iter-key-items.ensures.ordered
-
-pub returns-clause-distinct : goal.returns-clause-distinct
-returns-clause-distinct c = are_distinct-ordered c.args.members.now.entries c.iter-key-items.ensures.ordered
