@@ -3,6 +3,7 @@
 
 mod entry;
 mod faults;
+mod flat_laws;
 mod laws;
 mod naming;
 mod one_scope;
@@ -14,6 +15,7 @@ mod walk_laws;
 
 pub use entry::Entry;
 pub use faults::has_fault;
+pub use flat_laws::{flat_faults, flat_names};
 pub use naming::{NewNames, new_names};
 pub use one_scope::is_one_scope;
 pub use options::MangleOptions;
