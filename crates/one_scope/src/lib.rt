@@ -4,6 +4,7 @@
 mod entry;
 mod faults;
 mod flat_laws;
+mod laws;
 mod naming;
 mod one_scope;
 mod options;
