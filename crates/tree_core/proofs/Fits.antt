@@ -7,7 +7,6 @@ use Rattle.tree_core.specs.Reading.{is_null_value, one, or_null, text_in, units_
 use Rattle.tree_nodes.specs.Table.{Column, row}
 use Rattle.tree_nodes.specs.Tree.{Atom, Parts, Tree, alone, atom, child, done, empty, is_empty, many, text, units}
 use Rattle.tree_core.specs.Values.{atom_value, is_null_atom}
-use Rattle.tree_nodes.specs.declared.kind.Kind.{Kind}
 use Rattle.tree_nodes.specs.declared.table.Class.{Class as FieldClass}
 use Rattle.tree_nodes.specs.declared.table.Class.TheVariants.{Cooked, Flags, Pattern, Raw}
 

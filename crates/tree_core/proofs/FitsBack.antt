@@ -1,5 +1,5 @@
 -- A tree that fits the node table is read from its value, and that value has a text.
-use Rattle.std.proofs.Common.{◌≡◌, ℕ, ◌^◌, ◌<◌, pos, List, [], ◌∷◌, Bool, true, false, not, ◌||◌, Option, Some, None, option_map, option_and_then, if◌then◌else◌, refl, sym, ap, ◌∙◌, subst, arith, bytes_eq, codes, lt-ltb}
+use Rattle.std.proofs.Common.{◌≡◌, ℕ, ◌^◌, ◌<◌, pos, List, [], ◌∷◌, Bool, true, false, not, ◌||◌, Option, Some, None, option_map, option_and_then, refl, sym, ap, ◌∙◌, subst, arith, bytes_eq, codes, lt-ltb}
 use Rattle.json_text.specs.Json.{Json, null, truth, whole as number, string, list, Items, item, Members, member}
 use Rattle.json_text.specs.HasText.{HasText, ItemsHaveText, MembersHaveText}
 use Rattle.json_text.proofs.Units.{AreCodeUnits-are_code_units, AreCodeUnits-text_of_units}

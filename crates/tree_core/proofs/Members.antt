@@ -12,7 +12,7 @@ use Rattle.std.proofs.lemmas.Slice.Eq.{bytes_eq-Decides}
 use Rattle.std.proofs.lemmas.Str.{IsUtf8-string_bytes}
 use Rattle.json_text.specs.Json.{Json}
 use Rattle.json_text.specs.Units.{units_of}
-use Rattle.json_text.proofs.Units.{AreCodeUnits-units_of, are_code_units-AreCodeUnits, text_of_units-units_of, bytes_eq-units_of, units_of-injective}
+use Rattle.json_text.proofs.Units.{text_of_units-units_of, bytes_eq-units_of, units_of-injective}
 use Rattle.serde_json.specs.Data.{Data, array, object, string, Members, no_members, member, depth, members_depth}
 use Rattle.serde_json.specs.Find.{get_member}
 use Rattle.serde_json.specs.View.{view, items_view, members_view}
@@ -21,7 +21,7 @@ use Rattle.serde_json.specs.declared.value.Value.TheVariants.{String as StringVa
 use Rattle.serde_json.proofs.Views.{Entry}
 use Rattle.tree_core.specs.JsonOf.{json_of, members_of}
 use Rattle.tree_core.specs.Readable.{is_ascii, is_readable, are_readable}
-use Rattle.tree_core.specs.Reading.{find_member, text_in, units_in, is_blank, are_distinct, outer_key, is_known, is_listed, value_part}
+use Rattle.tree_core.specs.Reading.{find_member, text_in, is_blank, are_distinct, outer_key, is_known, is_listed, value_part}
 use Rattle.tree_nodes.specs.Table.{Column}
 
 -- ---- keys
@@ -139,11 +139,6 @@ view-String s = search (rules, the_lemmas)
 
 pub text_in-String : (s : String Global) → text_in (json_of (view (StringValue s))) ≡ Some (string_bytes s)
 text_in-String s = rw view-String (text_of_units-units_of (string_bytes s) (IsUtf8-string_bytes s))
-
-pub units_in-String : (s : String Global) → units_in (json_of (view (StringValue s))) ≡ Some (units_of (string_bytes s))
-units_in-String s =
-    let low = are_code_units-AreCodeUnits (units_of (string_bytes s)) (AreCodeUnits-units_of (string_bytes s) (IsUtf8-string_bytes s)) in
-    rw (view-String, low) refl
 
 pub is_blank_items : (vs : List Value) → nat_eq (length vs) 0 ≡ is_blank (json_of (array (items_view vs)))
 is_blank_items [] = grind arith

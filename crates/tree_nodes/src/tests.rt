@@ -6,6 +6,7 @@ use crate::{
     Declared, Field, FieldList, KINDS, Kind, Mode, Node, NodeList, Role, TreeText, Words,
     is_placed, row, row_named, word_list,
 };
+use oxc_str::JSText;
 use std::alloc::{AllocError, Global};
 use std::test::Fail;
 
@@ -58,6 +59,24 @@ fn a_literal_is_told(rt: HostRuntime) -> Result<(), Fail> {
     let fields = big_int(rt.alloc())?;
     assert!(rt; matches!(case_of(&fields), LiteralCase::BigInt));
     assert!(rt; has_case(&fields) && is_fixed(&fields) && is_key(&fields) && !is_text(&fields));
+    Ok(())
+}
+
+#[test]
+fn a_string_is_told(rt: HostRuntime) -> Result<(), Fail> {
+    let alloc = rt.alloc();
+    let lone = Field::Str(JSText::from_units(alloc, &[0xd800])?);
+    let copy = lone.try_clone(alloc)?;
+    assert!(rt; matches!(&copy, Field::Str(units) if units.as_js_str().has_lone_surrogate()));
+    let fields = FieldList::from_vec(vec![in alloc;
+        copy,
+        Field::Empty,
+        Field::Empty,
+        Field::Empty,
+        Field::Empty,
+    ]?);
+    assert!(rt; matches!(case_of(&fields), LiteralCase::Text));
+    assert!(rt; is_text(&fields) && is_key(&fields) && !is_fixed(&fields));
     Ok(())
 }
 
