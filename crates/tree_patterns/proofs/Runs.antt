@@ -13,7 +13,7 @@ use Rattle.tree_nodes.specs.Tree.{Parts, Tree, alone, atom, child, done, empty, 
 use Rattle.tree_nodes.specs.Views.{item_of}
 use Rattle.tree_nodes.specs.declared.kind.Kind.TheVariants.{Identifier}
 use Rattle.tree_nodes.specs.declared.table.Column.{Column as RustColumn}
-use Rattle.tree_patterns.specs.BoundNames.{bound, bound_in, declares}
+use Rattle.tree_patterns.specs.BoundNames.{bound, bound_in, declares, declaring}
 
 abbrev pub if_so : Bool → List Tree → List Tree
 if_so b names = if b then names else []
@@ -27,26 +27,26 @@ map_end f [] x = refl
 map_end f (y ∷ xs) x = ap (λ ys. f y ∷ ys) (map_end f xs x)
 
 -- what a node binds that stands where it declares
-abbrev of_node : Tree → List Tree
+abbrev pub of_node : Tree → List Tree
 of_node t = if is_kind t.kind Identifier then t ∷ [] else bound t.fields (each (row t.kind).columns) t.fields
 
 -- ---- a run under one column
 
-passed_over : (c : Column) (within ps : Parts) → declares c within ≡ false → bound ps (all c) within ≡ []
+pub passed_over : (c : Column) (within ps : Parts) → declares declaring c within ≡ false → bound ps (all c) within ≡ []
 unfolding bound first_column other_columns
 passed_over c within done e = refl
 passed_over c within (atom a more) e = passed_over c within more e
 passed_over c within (many items more) e = ap₂ (λ x y. x ++ y) (passed_over c within items e) (passed_over c within more e)
 passed_over c within (child k s t fields more) e = ap₂ (λ b y. if_so b (of_node (record { kind = k; start = s; stop = t; fields = fields })) ++ y) e (passed_over c within more e)
 
-entered : (c : Column) (within ps : Parts) → declares c within ≡ true → bound ps (all c) within ≡ bound_in ps
+pub entered : (c : Column) (within ps : Parts) → declares declaring c within ≡ true → bound ps (all c) within ≡ bound_in ps
 unfolding bound first_column other_columns declares declares_role role_at
 entered c within done e = refl
 entered c within (atom a more) e = entered c within more e
 entered c within (many items more) e = ap₂ (λ x y. x ++ y) (entered c within items e) (entered c within more e)
 entered c within (child k s t fields more) e = ap₂ (λ b y. if_so b (of_node (record { kind = k; start = s; stop = t; fields = fields })) ++ y) e (entered c within more e)
 
-by_test : (c : Column) (within ps : Parts) (b : Bool) → declares c within ≡ b → bound ps (all c) within ≡ if_so b (bound_in ps)
+by_test : (c : Column) (within ps : Parts) (b : Bool) → declares declaring c within ≡ b → bound ps (all c) within ≡ if_so b (bound_in ps)
 by_test c within ps true e = entered c within ps e
 by_test c within ps false e = passed_over c within ps e
 
@@ -64,7 +64,7 @@ pub of_list : (items : Parts) → bound_in (many items done) ≡ bound_in items
 unfolding bound first_column other_columns
 of_list items = append-nil (bound_in items)
 
-node_is : (t : Tree) → bound_in (alone t) ≡ of_node t
+pub node_is : (t : Tree) → bound_in (alone t) ≡ of_node t
 unfolding bound first_column other_columns declares declares_role role_at
 node_is t = append-nil (of_node t)
 
@@ -89,7 +89,7 @@ no_column [] (suc i) e = refl
 no_column (d ∷ cs) zero e = absurd (cc)
 no_column (d ∷ cs) (suc i) e = no_column cs i e
 
-pub unlisted_is_none : (within : Parts) → declares unlisted within ≡ false
+pub unlisted_is_none : (within : Parts) → declares declaring unlisted within ≡ false
 unfolding declares declares_role role_at
 unlisted_is_none within = refl
 
@@ -100,20 +100,20 @@ nothing true = refl
 nothing false = refl
 
 at_part : (ps : Parts) (i : ℕ) (p : Parts) (cs : Along) (within : Parts) → part_at ps i ≡ Some p
-    → bound (past i ps) cs within ≡ if_so (declares (first_column cs) within) (bound_in p) ++ bound (past (suc i) ps) (other_columns cs) within
+    → bound (past i ps) cs within ≡ if_so (declares declaring (first_column cs) within) (bound_in p) ++ bound (past (suc i) ps) (other_columns cs) within
 unfolding bound
 at_part done i p cs within e = absurd (cc)
 at_part (atom a rest) zero p cs within e =
     let same : atom a done ≡ p = cc in
-    rw (← same) (ap (λ x. x ++ bound rest (other_columns cs) within) (nothing (declares (first_column cs) within)))
+    rw (← same) (ap (λ x. x ++ bound rest (other_columns cs) within) (nothing (declares declaring (first_column cs) within)))
 at_part (atom a rest) (suc i) p cs within e = at_part rest i p cs within e
 at_part (child k s t fields rest) zero p cs within e =
     let same : child k s t fields done ≡ p = cc in
-    rw (← same) (ap (λ x. if_so (declares (first_column cs) within) x ++ bound rest (other_columns cs) within) (sym (node_is (record { kind = k; start = s; stop = t; fields = fields }))))
+    rw (← same) (ap (λ x. if_so (declares declaring (first_column cs) within) x ++ bound rest (other_columns cs) within) (sym (node_is (record { kind = k; start = s; stop = t; fields = fields }))))
 at_part (child k s t fields rest) (suc i) p cs within e = at_part rest i p cs within e
 at_part (many items rest) zero p cs within e =
     let same : many items done ≡ p = cc in
-    rw (← same) (ap (λ x. x ++ bound rest (other_columns cs) within) (by_test (first_column cs) within items _ refl ∙ ap (if_so (declares (first_column cs) within)) (sym (of_list items))))
+    rw (← same) (ap (λ x. x ++ bound rest (other_columns cs) within) (by_test (first_column cs) within items _ refl ∙ ap (if_so (declares declaring (first_column cs) within)) (sym (of_list items))))
 at_part (many items rest) (suc i) p cs within e = at_part rest i p cs within e
 
 other_drop : (cs : List Column) (i : ℕ) → other_columns (each (drop i cs)) ≡ each (drop (suc i) cs)
@@ -132,10 +132,10 @@ join now old here left total rest found split e =
     ap (λ x. x ++ rest) found ∙ append_assoc old here rest ∙ ap (λ x. old ++ x) (sym split) ∙ e
 
 module _ (fields : Parts) (cs : List Column) (i : ℕ) (old total : List Tree) (so_far : old ++ bound (past i fields) (each (drop i cs)) fields ≡ total) where
-  pub next_field : (now : List Tree) (p : Parts) → Some p ≡ part_at fields i → now ≡ old ++ if_so (declares (first_column (each (drop i cs))) fields) (bound_in p)
+  pub next_field : (now : List Tree) (p : Parts) → Some p ≡ part_at fields i → now ≡ old ++ if_so (declares declaring (first_column (each (drop i cs))) fields) (bound_in p)
       → now ++ bound (past (i + 1) fields) (each (drop (i + 1) cs)) fields ≡ total
   next_field now p e found =
-      let here = if_so (declares (first_column (each (drop i cs))) fields) (bound_in p) in
+      let here = if_so (declares declaring (first_column (each (drop i cs))) fields) (bound_in p) in
       let split = at_part fields i p (each (drop i cs)) fields (sym e)
           ∙ ap (λ xs. here ++ bound (past (suc i) fields) xs fields) (other_drop cs i)
           ∙ ap (λ j. here ++ bound (past j fields) (each (drop j cs)) fields) (one_more i) in

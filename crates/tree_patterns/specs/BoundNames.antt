@@ -9,7 +9,7 @@ use Rattle.tree_nodes.specs.Tree.{Parts, Tree, alone, atom, child, done, many}
 use Rattle.tree_nodes.specs.declared.kind.Kind.TheVariants.{Identifier}
 use Rattle.tree_nodes.specs.declared.table.Class.TheVariants.{Flag}
 use Rattle.tree_nodes.specs.declared.table.Declared.TheVariants.{Let}
-use Rattle.tree_nodes.specs.declared.table.Mode.TheVariants.{Gives}
+use Rattle.tree_nodes.specs.declared.table.Mode.TheVariants.{Same}
 use Rattle.tree_nodes.specs.declared.table.Role.{Role}
 use Rattle.tree_nodes.specs.declared.table.Role.TheVariants.{Declares}
 
@@ -17,9 +17,9 @@ use Rattle.tree_nodes.specs.declared.table.Role.TheVariants.{Declares}
 abbrev pub declaring : Role
 declaring = Declares Let
 
--- whether a field declares, in a node that stands in such a role: it gives a declaring role, and lies outside the scope that the node opens
-unfoldable pub declares : Column → Parts → Bool
-declares column fields = not column.inside && declares_role (role_at column.mode declaring fields)
+-- whether a field declares, in a node of this role: it gives a declaring role, and lies outside the scope that the node opens
+unfoldable pub declares : Role → Column → Parts → Bool
+declares own column fields = not column.inside && declares_role (role_at column.mode own fields)
 
 -- in a run beside these columns, of a node with these fields: the Identifiers to which fields lead that all declare
 unfoldable pub bound : Parts → Along → Parts → List Tree
@@ -27,14 +27,18 @@ bound done cs within = []
 bound (atom a more) cs within = bound more (other_columns cs) within
 bound (many items more) cs within = bound items (all (first_column cs)) within ++ bound more (other_columns cs) within
 bound (child k s e fields more) cs within =
-    (if declares (first_column cs) within
+    (if declares declaring (first_column cs) within
         then (if is_kind k Identifier then record { kind = k; start = s; stop = e; fields = fields } ∷ [] else bound fields (each (row k).columns) fields)
         else [])
     ++ bound more (other_columns cs) within
 
+-- a field that hands the role of its node on
+abbrev pub hands_on : Column
+hands_on = mode Same (node [] Flag)
+
 -- in a run that stands where it declares
 abbrev pub bound_in : Parts → List Tree
-bound_in ps = bound ps (all (mode (Gives declaring) (node [] Flag))) done
+bound_in ps = bound ps (all hands_on) done
 
 abbrev pub bound_names : Tree → List Tree
 bound_names t = bound_in (alone t)

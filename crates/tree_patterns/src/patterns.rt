@@ -60,10 +60,10 @@ pub fn bound_names<'t>(alloc: Global, pattern: &'t Node) -> Result<NodeRefs<'t>,
     Ok(NodeRefs { nodes })
 }
 
-// Whether a field of this column declares, in a node of these fields that stands where it declares.
+// Whether a field declares, in a node with these fields that stands where it declares.
 #[tactic(auto, unfolding(crate::specs::BoundNames::declares, tree_nodes::specs::Standing::declares_role))]
 fn declares(column: &Column, fields: &FieldList) -> bool
-    ensures { result ≡ spec.declares (column_of column.now) fields.now }
+    ensures { result ≡ spec.declares spec.declaring (column_of column.now) fields.now }
 {
     !column.inside
         && matches!(
@@ -81,7 +81,7 @@ fn get_column(columns: &[Column], i: usize) -> Option<&Column>
 
 // The same of the i-th field of a node of this kind.
 fn field_declares(kind: Kind, fields: &FieldList, i: usize) -> bool
-    ensures { result ≡ spec.declares (first_column (each (drop i (table.row kind).columns))) fields.now }
+    ensures { result ≡ spec.declares spec.declaring (first_column (each (drop i (table.row kind).columns))) fields.now }
 {
     match get_column(row(kind).columns, i) {
         Some(column) => declares(column, fields),

@@ -7,7 +7,7 @@ use Rattle.tree_nodes.specs.Table.{row}
 use Rattle.tree_nodes.specs.Tree.{Tree}
 use Rattle.tree_nodes.specs.Views.{part_of}
 use Rattle.tree_nodes.specs.declared.kind.Kind.TheVariants.{Identifier}
-use Rattle.tree_patterns.specs.BoundNames.{bound, bound_in, declares}
+use Rattle.tree_patterns.specs.BoundNames.{bound, bound_in, declares, declaring}
 use Rattle.tree_patterns.proofs.Runs.{if_so, map_end, next_field, next_item, no_field, no_item, of_identifier, of_list, of_other, on_ok, past_end, past_items, past_len}
 use Rattle.tree_patterns.proofs.patterns.+bind.Goals as goal
 use Rattle.tree_patterns.proofs.patterns.+bind.Goals.{bind_fields-then-field_declares+in_ok-bind_field, bind_fields-else-field_declares}
@@ -28,7 +28,7 @@ bind_fields-loop-i-preserved t c =
     let fields = c.args.fields.now in
     let p = part_of c.in-Some.field.now in
     let old = seen c.loop-i.names.items in
-    let here = if_so (declares (first_column (each (drop c.loop-i.i (row c.args.kind).columns))) fields) (bound_in p) in
+    let here = if_so (declares declaring (first_column (each (drop c.loop-i.i (row c.args.kind).columns))) fields) (bound_in p) in
     let found : seen c.if-field_declares.names.items ≡ old ++ here = elim c.if-field_declares.branch
           [ bind_fields-then-field_declares+in_ok-bind_field w ↦ rw w.names-is (w.in_ok-bind_field.ensures ∙ ap (λ b. old ++ if_so b (bound_in p)) (sym w.if-field_declares.true ∙ c.field_declares.ensures))
           | bind_fields-else-field_declares w ↦ rw w.names-is (sym (append-nil old) ∙ ap (λ b. old ++ if_so b (bound_in p)) (sym w.if-field_declares.false ∙ c.field_declares.ensures)) ] in
