@@ -68,7 +68,7 @@ function_declaration : (id body : Tree) (params : Parts) (generator is_async exp
 unfolding bound first_column other_columns declares declares_role role_at is_kind
 function_declaration id body params generator is_async expression = λ start stop.
     ap (λ xs. (of_node id ++ (xs ++ [])) ++ [])
-        (passed_over (first_column (other_columns (other_columns (other_columns (each (row FunctionDeclaration).columns))))) (before id (atom generator (atom is_async (many params (before body (atom expression done)))))) params refl)
+    (passed_over (first_column (other_columns (other_columns (other_columns (each (row FunctionDeclaration).columns))))) (before id (atom generator (atom is_async (many params (before body (atom expression done)))))) params refl)
     ∙ one id
 
 class_declaration : (id body : Tree) (super_class : Option Tree) → Binds ClassDeclaration (before id (onto (item_of super_class) (alone body))) (bound_names id)
@@ -89,18 +89,18 @@ unfolding bound first_column other_columns declares declares_role role_at is_kin
 item t more = ap (λ xs. xs ++ bound_in more) (sym (append-nil (of_node t)))
 
 pub by_kind : BindByKind
-by_kind = record
-    { identifier = identifier
-    ; property = property
-    ; object_pattern = object_pattern
-    ; array_pattern = array_pattern
-    ; rest_element = rest_element
-    ; assignment_pattern = assignment_pattern
-    ; declarator = declarator
-    ; declaration = declaration
-    ; function_declaration = function_declaration
-    ; class_declaration = class_declaration
-    ; no_items = no_items
-    ; hole = hole
-    ; item = item
-    }
+by_kind = record {
+  identifier = identifier;
+  property = property;
+  object_pattern = object_pattern;
+  array_pattern = array_pattern;
+  rest_element = rest_element;
+  assignment_pattern = assignment_pattern;
+  declarator = declarator;
+  declaration = declaration;
+  function_declaration = function_declaration;
+  class_declaration = class_declaration;
+  no_items = no_items;
+  hole = hole;
+  item = item;
+}

@@ -55,7 +55,7 @@ unfolding bound first_column other_columns declares declares_role role_at
 with_onto done b = refl
 with_onto (atom x a) b = with_onto a b
 with_onto (many items a) b = ap (λ y. bound_in items ++ y) (with_onto a b) ∙ sym (append_assoc (bound_in items) (bound_in a) (bound_in b))
-with_onto (child k s e fields a) b = 
+with_onto (child k s e fields a) b =
     let here = of_node (record { kind = k; start = s; stop = e; fields = fields }) in
     ap (λ y. here ++ y) (with_onto a b) ∙ sym (append_assoc here (bound_in a) (bound_in b))
 
@@ -137,8 +137,8 @@ module _ (fields : Parts) (cs : List Column) (i : ℕ) (old total : List Tree) (
   next_field now p e found =
       let here = if_so (declares declaring (first_column (each (drop i cs))) fields) (bound_in p) in
       let split = at_part fields i p (each (drop i cs)) fields (sym e)
-          ∙ ap (λ xs. here ++ bound (past (suc i) fields) xs fields) (other_drop cs i)
-          ∙ ap (λ j. here ++ bound (past j fields) (each (drop j cs)) fields) (one_more i) in
+      ∙ ap (λ xs. here ++ bound (past (suc i) fields) xs fields) (other_drop cs i)
+      ∙ ap (λ j. here ++ bound (past j fields) (each (drop j cs)) fields) (one_more i) in
       join now old here _ total _ found split so_far
 
   pub no_field : past i fields ≡ done → old ≡ total
@@ -165,7 +165,7 @@ module _ (items : Parts) (i : ℕ) (old total : List Tree) (so_far : old ++ boun
   next_item now t shaped e found =
       let here = bound_in (item_of t) in
       let split = ap bound_in (past_item items i t shaped (sym e)) ∙ with_onto (item_of t) (past (suc i) items)
-          ∙ ap (λ j. here ++ bound_in (past j items)) (one_more i) in
+      ∙ ap (λ j. here ++ bound_in (past j items)) (one_more i) in
       join now old here _ total _ found split so_far
 
   pub no_item : past i items ≡ done → old ≡ total

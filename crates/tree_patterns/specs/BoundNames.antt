@@ -1,5 +1,6 @@
 -- Bound names: the Identifiers that a pattern or a declaration itself declares, in printing order.
-use Rattle.std.specs.Prelude.{Bool, not, ◌&&◌, List, [], ◌∷◌, ◌++◌, if◌then◌else◌}
+use Rattle.std.specs.Prelude.{◌≡◌, Bool, not, ◌&&◌, List, [], ◌∷◌, ◌++◌, map, All, if◌then◌else◌}
+use Rattle.std.specs.Borrow.{Bor}
 use Rattle.tree_nodes.specs.Along.{Along, all, each, first_column, other_columns}
 use Rattle.tree_nodes.specs.Kinds.{is_kind}
 use Rattle.tree_nodes.specs.Roles.{role_at}
@@ -28,8 +29,8 @@ bound (atom a more) cs within = bound more (other_columns cs) within
 bound (many items more) cs within = bound items (all (first_column cs)) within ++ bound more (other_columns cs) within
 bound (child k s e fields more) cs within =
     (if declares declaring (first_column cs) within
-        then (if is_kind k Identifier then record { kind = k; start = s; stop = e; fields = fields } ∷ [] else bound fields (each (row k).columns) fields)
-        else [])
+    then (if is_kind k Identifier then record { kind = k; start = s; stop = e; fields = fields } ∷ [] else bound fields (each (row k).columns) fields)
+    else [])
     ++ bound more (other_columns cs) within
 
 -- a field that hands the role of its node on
@@ -42,3 +43,11 @@ bound_in ps = bound ps (all hands_on) done
 
 abbrev pub bound_names : Tree → List Tree
 bound_names t = bound_in (alone t)
+
+-- the trees that references to nodes stand for
+abbrev pub trees_of : List (Bor Tree) → List Tree
+trees_of nodes = map (λ n. n.now) nodes
+
+-- each bound name is an Identifier
+abbrev pub BoundNamesAreIdentifiers : Type 0
+BoundNamesAreIdentifiers = (t : Tree) → All (λ (n : Tree). n.kind ≡ Identifier) (bound_names t)

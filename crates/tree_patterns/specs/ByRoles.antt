@@ -18,8 +18,8 @@ declared (atom a more) cs own within = declared more (other_columns cs) own with
 declared (many items more) cs own within = declared items (all (first_column cs)) own within ++ declared more (other_columns cs) own within
 declared (child k s e fields more) cs own within =
     (if declares own (first_column cs) within
-        then (if is_kind k Identifier then record { kind = k; start = s; stop = e; fields = fields } ∷ [] else declared fields (each (row k).columns) (role_at (first_column cs).mode own within) fields)
-        else [])
+    then (if is_kind k Identifier then record { kind = k; start = s; stop = e; fields = fields } ∷ [] else declared fields (each (row k).columns) (role_at (first_column cs).mode own within) fields)
+    else [])
     ++ declared more (other_columns cs) own within
 
 abbrev pub declared_as : Role → Tree → List Tree

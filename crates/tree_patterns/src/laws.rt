@@ -1,5 +1,6 @@
 //! The laws on bound names. The functions here do nothing: each has a law as its contract.
 
+ghost use Rattle.tree_patterns.specs.BoundNames.{BoundNamesAreIdentifiers};
 ghost use Rattle.tree_patterns.specs.ByKind.{BindByKind};
 ghost use Rattle.tree_patterns.specs.ByRoles.{BoundNamesAreDeclared};
 
@@ -14,4 +15,9 @@ pub fn bound_names_are_declared()
 /// names come.
 pub fn bound_names_by_kind()
     ensures { BindByKind }
+{}
+
+/// The law that each bound name is an Identifier.
+pub fn bound_names_are_identifiers()
+    ensures { BoundNamesAreIdentifiers }
 {}

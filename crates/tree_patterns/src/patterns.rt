@@ -1,13 +1,13 @@
 //! The Identifiers that a pattern or a declaration itself declares.
 
-ghost use Rattle.std.specs.Prelude.{◌≡◌, ◌++◌, drop, length, map, option_copied, slice_get, IfOk, OnOk};
+ghost use Rattle.std.specs.Prelude.{◌≡◌, ◌++◌, drop, length, option_copied, slice_get, IfOk, OnOk};
 ghost use Rattle.tree_nodes.specs.Along.{each, first_column};
 ghost use Rattle.tree_nodes.specs.Rows.{column_of};
 ghost use Rattle.tree_nodes.specs.Table as table;
 ghost use Rattle.tree_nodes.specs.Tree.{alone};
 ghost use Rattle.tree_nodes.specs.Views.{part_of, item_of};
 ghost use Rattle.tree_patterns.specs.BoundNames as spec;
-ghost use Rattle.tree_patterns.specs.BoundNames.{bound, bound_in};
+ghost use Rattle.tree_patterns.specs.BoundNames.{bound, bound_in, trees_of};
 
 use std::alloc::{AllocError, Global};
 use std::marker::Model;
@@ -21,16 +21,17 @@ pub struct NodeRefs<'t> {
 }
 
 impl<'t> Model for NodeRefs<'t> {
-    ghost use Rattle.std.specs.Prelude.{List, map};
+    ghost use Rattle.std.specs.Prelude.{List};
     ghost use Rattle.std.specs.Coded.{coded_list};
     ghost use Rattle.tree_nodes.specs.Tree.{Tree};
     ghost use Rattle.tree_nodes.specs.TreeCode.{coded_tree};
+    ghost use Rattle.tree_patterns.specs.BoundNames.{trees_of};
 
     ghost Value = { List Tree };
 
     ghost coded = { coded_list coded_tree };
 
-    ghost view = { λ r. map (λ n. n.now) r.nodes.items };
+    ghost view = { λ r. trees_of r.nodes.items };
 }
 
 impl<'t> NodeRefs<'t> {
@@ -51,7 +52,9 @@ impl<'t> NodeRefs<'t> {
 
 /// The Identifiers that a pattern or a declaration itself declares, in printing order: of a
 /// VariableDeclaration those of its declarators' `id`s, of a FunctionDeclaration or ClassDeclaration
-/// its `id`. None inside a default, a computed key, parameters or a body. Err is want of memory.
+/// its `id`; never one inside a default, a computed key, parameters or a body. An Identifier is a
+/// pattern, and its own name. Of another node it is what the node would declare as a pattern: of an
+/// ImportDeclaration its `local` names, of most nothing. Err is want of memory.
 pub fn bound_names<'t>(alloc: Global, pattern: &'t Node) -> Result<NodeRefs<'t>, AllocError>
     ensures { IfOk result (λ names. names ≡ spec.bound_names pattern.now) }
 {
@@ -79,9 +82,10 @@ fn get_column(columns: &[Column], i: usize) -> Option<&Column>
     columns.get(i)
 }
 
-// The same of the i-th field of a node of this kind.
+// Whether the i-th field of a node of this kind does so.
 fn field_declares(kind: Kind, fields: &FieldList, i: usize) -> bool
-    ensures { result ≡ spec.declares spec.declaring (first_column (each (drop i (table.row kind).columns))) fields.now }
+    ensures { result ≡ spec.declares spec.declaring
+        (first_column (each (drop i (table.row kind).columns))) fields.now }
 {
     match get_column(row(kind).columns, i) {
         Some(column) => declares(column, fields),
@@ -89,10 +93,12 @@ fn field_declares(kind: Kind, fields: &FieldList, i: usize) -> bool
     }
 }
 
+// Appends what a node binds. The functions below do the same for a node's fields, one field, and
+// items of a list.
 #[cycle(bind)]
 fn bind_node<'t>(node: &'t Node, names: &mut Vec<&'t Node>) -> Result<(), AllocError>
-    ensures { OnOk result (map (λ n. n.now) names.new.items
-        ≡ map (λ n. n.now) names.old.items ++ bound_in (alone node.now)) }
+    ensures { OnOk result (trees_of names.new.items
+        ≡ trees_of names.old.items ++ bound_in (alone node.now)) }
 {
     if !node.kind.is(Kind::Identifier) {
         return bind_fields(node.kind, &node.fields, names);
@@ -107,8 +113,8 @@ fn bind_fields<'t>(
     fields: &'t FieldList,
     names: &mut Vec<&'t Node>,
 ) -> Result<(), AllocError>
-    ensures { OnOk result (map (λ n. n.now) names.new.items
-        ≡ map (λ n. n.now) names.old.items ++ bound fields.now (each (table.row kind).columns) fields.now) }
+    ensures { OnOk result (trees_of names.new.items
+        ≡ trees_of names.old.items ++ bound fields.now (each (table.row kind).columns) fields.now) }
 {
     for i in 0..fields.len() {
         let Some(field) = fields.get(i) else { break };
@@ -121,8 +127,8 @@ fn bind_fields<'t>(
 
 #[cycle(bind)]
 fn bind_field<'t>(field: &'t Field, names: &mut Vec<&'t Node>) -> Result<(), AllocError>
-    ensures { OnOk result (map (λ n. n.now) names.new.items
-        ≡ map (λ n. n.now) names.old.items ++ bound_in (part_of field.now)) }
+    ensures { OnOk result (trees_of names.new.items
+        ≡ trees_of names.old.items ++ bound_in (part_of field.now)) }
 {
     match field {
         Field::Child(node) => bind_node(node, names),
@@ -133,8 +139,8 @@ fn bind_field<'t>(field: &'t Field, names: &mut Vec<&'t Node>) -> Result<(), All
 
 #[cycle(bind)]
 fn bind_items<'t>(nodes: &'t NodeList, names: &mut Vec<&'t Node>) -> Result<(), AllocError>
-    ensures { OnOk result (map (λ n. n.now) names.new.items
-        ≡ map (λ n. n.now) names.old.items ++ bound_in nodes.now) }
+    ensures { OnOk result (trees_of names.new.items
+        ≡ trees_of names.old.items ++ bound_in nodes.now) }
 {
     for i in 0..nodes.len() {
         let Some(item) = nodes.get(i) else { break };
@@ -145,8 +151,8 @@ fn bind_items<'t>(nodes: &'t NodeList, names: &mut Vec<&'t Node>) -> Result<(), 
 
 #[cycle(bind)]
 fn bind_item<'t>(item: &'t Option<Node>, names: &mut Vec<&'t Node>) -> Result<(), AllocError>
-    ensures { OnOk result (map (λ n. n.now) names.new.items
-        ≡ map (λ n. n.now) names.old.items ++ bound_in (item_of item.now)) }
+    ensures { OnOk result (trees_of names.new.items
+        ≡ trees_of names.old.items ++ bound_in (item_of item.now)) }
 {
     match item {
         Some(node) => bind_node(node, names),

@@ -24,17 +24,11 @@ fn list(items: Vec<Option<Node>>) -> Field {
 
 fn identifier(alloc: Global, name: &str) -> Result<Node, AllocError> {
     let text = TreeText::from_string(String::from_str(alloc, name)?);
-    Ok(node(
-        Kind::Identifier,
-        vec![in alloc; Field::Text(text)]?,
-    ))
+    Ok(node(Kind::Identifier, vec![in alloc; Field::Text(text)]?))
 }
 
 fn array_pattern(alloc: Global, elements: Vec<Option<Node>>) -> Result<Node, AllocError> {
-    Ok(node(
-        Kind::ArrayPattern,
-        vec![in alloc; list(elements)]?,
-    ))
+    Ok(node(Kind::ArrayPattern, vec![in alloc; list(elements)]?))
 }
 
 fn object_pattern(alloc: Global, property: Node) -> Result<Node, AllocError> {
@@ -123,10 +117,7 @@ fn keys_and_defaults_are_not_bound(rt: HostRuntime) -> Result<(), Fail> {
             identifier(alloc, "c")?,
         )?;
         let others = rest(alloc, identifier(alloc, "d")?)?;
-        let value = array_pattern(
-            alloc,
-            vec![in alloc; Some(with_default), Some(others)]?,
-        )?;
+        let value = array_pattern(alloc, vec![in alloc; Some(with_default), Some(others)]?)?;
         let key = identifier(alloc, "a")?;
         let pattern = object_pattern(alloc, property(alloc, key, value, false, computed)?)?;
         assert_eq!(rt; spelled(alloc, &pattern)?.as_str(), "bd");
@@ -138,10 +129,7 @@ fn keys_and_defaults_are_not_bound(rt: HostRuntime) -> Result<(), Fail> {
 #[test]
 fn declarators_bind(rt: HostRuntime) -> Result<(), Fail> {
     let alloc = rt.alloc();
-    let inner = array_pattern(
-        alloc,
-        vec![in alloc; Some(identifier(alloc, "c")?)]?,
-    )?;
+    let inner = array_pattern(alloc, vec![in alloc; Some(identifier(alloc, "c")?)]?)?;
     let first = pair(
         alloc,
         Kind::VariableDeclarator,
@@ -201,10 +189,7 @@ fn classes_bind_their_names(rt: HostRuntime) -> Result<(), Fail> {
     let id = child(alloc, identifier(alloc, "A")?)?;
     let super_class = child(alloc, identifier(alloc, "B")?)?;
     let members = list(Vec::new(alloc));
-    let body = child(
-        alloc,
-        node(Kind::ClassBody, vec![in alloc; members]?),
-    )?;
+    let body = child(alloc, node(Kind::ClassBody, vec![in alloc; members]?))?;
     let class = node(
         Kind::ClassDeclaration,
         vec![in alloc; id, super_class, body]?,

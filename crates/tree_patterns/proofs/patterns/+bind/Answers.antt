@@ -29,9 +29,10 @@ bind_fields-loop-i-preserved t c =
     let p = part_of c.in-Some.field.now in
     let old = seen c.loop-i.names.items in
     let here = if_so (declares declaring (first_column (each (drop c.loop-i.i (row c.args.kind).columns))) fields) (bound_in p) in
-    let found : seen c.if-field_declares.names.items ≡ old ++ here = elim c.if-field_declares.branch
-          [ bind_fields-then-field_declares+in_ok-bind_field w ↦ rw w.names-is (w.in_ok-bind_field.ensures ∙ ap (λ b. old ++ if_so b (bound_in p)) (sym w.if-field_declares.true ∙ c.field_declares.ensures))
-          | bind_fields-else-field_declares w ↦ rw w.names-is (sym (append-nil old) ∙ ap (λ b. old ++ if_so b (bound_in p)) (sym w.if-field_declares.false ∙ c.field_declares.ensures)) ] in
+    let found : seen c.if-field_declares.names.items ≡ old ++ here = elim c.if-field_declares.branch [
+      | bind_fields-then-field_declares+in_ok-bind_field w ↦ rw w.names-is (w.in_ok-bind_field.ensures ∙ ap (λ b. old ++ if_so b (bound_in p)) (sym w.if-field_declares.true ∙ c.field_declares.ensures))
+      | bind_fields-else-field_declares w ↦ rw w.names-is (sym (append-nil old) ∙ ap (λ b. old ++ if_so b (bound_in p)) (sym w.if-field_declares.false ∙ c.field_declares.ensures))
+    ] in
     next_field fields (row c.args.kind).columns c.loop-i.i _ _ c.loop-i.invariant _ p c.in-Some.ensures.part found
 
 pub bind_fields-returns-after-loop-i : goal.bind_fields-returns-after-loop-i
