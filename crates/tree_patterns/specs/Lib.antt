@@ -1,0 +1,3 @@
+pub mod BoundNames
+pub mod ByRoles
+pub mod ByKind
