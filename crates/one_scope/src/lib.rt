@@ -4,7 +4,6 @@
 mod entry;
 mod faults;
 mod flat_laws;
-mod laws;
 mod naming;
 mod one_scope;
 mod options;
