@@ -2,6 +2,9 @@ pub mod CodeBuffer
 pub mod InlineString
 pub mod NonEmptyStackLends
 pub mod Rope
+pub mod SliceCursorMut
+pub mod SliceCursorMutLends
+pub mod SliceLends
 pub mod SparseStack
 pub mod SparseStackLends
 pub mod Stack

@@ -1,10 +1,12 @@
 //! Each public call with ample memory, by values from outside.
 
+ghost use Rattle.std.specs.Prelude.{◌≡◌, ◌≤◌, length, slice_set};
+
 use crate::branch_hints::{likely, unlikely};
 use crate::code_buffer::{CodeBuffer, DEFAULT_INDENT_WIDTH, IndentChar};
 use crate::inline_string::{InlineString, UnsignedInt};
 use crate::rope::{Rope, get_line_column, get_offset_from_line_and_column};
-use crate::slice_iter::SliceCursor;
+use crate::slice_iter::{SliceCursor, SliceCursorMut};
 use crate::stack::{CollectError, NonEmptyStack, SparseStack, Stack, TryFromVecError};
 use crate::str::const_str_eq;
 use std::alloc::{AllocError, Global};
@@ -308,6 +310,56 @@ fn a_cursor_moves_over_a_slice(rt: HostRuntime) {
     assert_eq!(rt; cursor.peek().copied(), None);
     assert_eq!(rt; cursor.peek_copy(), None);
     assert_eq!(rt; cursor.next().copied(), None);
+}
+
+#[test]
+fn a_mutable_cursor_writes_to_its_slice(rt: HostRuntime) {
+    let mut entries = [1, 2, 3, 4, 5];
+    let mut cursor = SliceCursorMut::new(&mut entries);
+    assert_eq!(rt; cursor.len(), 5);
+    assert_eq!(rt; cursor.peek().copied(), Some(1));
+    if let Some(entry) = cursor.next() {
+        *entry = 10;
+    }
+    assert_eq!(rt; cursor.peek_copy(), Some(2));
+    cursor.advance(1);
+    assert_eq!(rt; cursor.rest(), [3, 4, 5].as_slice());
+    cursor.as_mut_slice()[1] = 40;
+    if let Some(entry) = cursor.next() {
+        *entry += 27;
+    }
+    assert_eq!(rt; cursor.rest(), [40, 5].as_slice());
+    cursor.advance_to_end();
+    assert_eq!(rt; cursor.len(), 0);
+    assert_eq!(rt; cursor.peek().copied(), None);
+    assert_eq!(rt; cursor.peek_copy(), None);
+    assert!(rt; cursor.next().is_none());
+    assert!(rt; cursor.as_mut_slice().is_empty());
+    assert_eq!(rt; entries, [10, 2, 30, 40, 5]);
+}
+
+/// What a caller learns: writes through a cursor are writes to its slice.
+fn set_first_and_third(slice: &mut [u8], first: u8, third: u8)
+    requires { 3 ≤ length slice.old }
+    ensures { slice.new ≡ slice_set (slice_set slice.old 0 first) 2 third }
+{
+    let mut cursor = SliceCursorMut::new(slice);
+    let Some(entry) = cursor.next() else {
+        return;
+    };
+    *entry = first;
+    cursor.advance(1);
+    let Some(entry) = cursor.next() else {
+        return;
+    };
+    *entry = third;
+}
+
+#[test]
+fn a_caller_knows_what_a_cursor_wrote(rt: HostRuntime) {
+    let mut entries = [1, 2, 3, 4];
+    set_first_and_third(&mut entries, 10, 30);
+    assert_eq!(rt; entries, [10, 2, 30, 4]);
 }
 
 #[test]
