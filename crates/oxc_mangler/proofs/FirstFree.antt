@@ -1,6 +1,6 @@
 -- The first names that a guard doesn't refuse, as they are found one after another.
 use Rattle.std.specs.Prelude.{◌≡◌, ◌≤◌, ◌<◌, ℕ, zero, suc, ◌+◌, ◌-◌, ◌/◌, ◌%◌, ◌^◌, Bool, true, false, nat_lt, List, [], ◌∷◌, ◌++◌, length, if◌then◌else◌, codes, decimal}
-use Rattle.std.proofs.Common.{refl, sym, ap, ◌∙◌, subst, arith, rules}
+use Rattle.std.proofs.Common.{refl, sym, ap, ◌∙◌, subst, arith}
 use Rattle.std.proofs.lemmas.Bool.{both_ways}
 use Rattle.std.proofs.lemmas.Fmt.{PrependsLastDigit, decimal_from_prepends, length-decimal-le_succ}
 use Rattle.std.proofs.lemmas.List.{append_assoc, append-nil, length-append}
@@ -9,12 +9,9 @@ use Rattle.oxc_mangler.proofs.NextNames.{how_many, is_listed}
 use Rattle.oxc_mangler.proofs.Untaken.{candidate_one, enough}
 use Rattle.oxc_mangler.specs.FirstFree.{AreFirstFree, AreFreeWhereTaken}
 use Rattle.oxc_mangler.specs.FreeNames.{first_untaken, is_taken}
-use Rattle.oxc_mangler.specs.GivenNames.{free_names}
-use Rattle.oxc_mangler.specs.Groups.{Member}
 use Rattle.oxc_mangler.specs.Guard.{is_refused}
 use Rattle.oxc_mangler.specs.Kept.{name_arguments}
 use Rattle.oxc_mangler.specs.Open.{all_open}
-use Rattle.oxc_mangler.specs.Options.{Options}
 use Rattle.oxc_mangler.specs.ShortNames.{candidate, digits_onto, readable_name}
 use Rattle.tree_nodes.specs.Tree.{Text}
 use Rattle.tree_semantic.specs.Evals.{name_eval}
