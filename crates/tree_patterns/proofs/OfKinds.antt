@@ -1,7 +1,7 @@
 -- What each kind binds, by the columns of its row.
 use Rattle.std.proofs.Common.{◌≡◌, ℕ, Bool, true, false, List, [], ◌∷◌, ◌++◌, Option, Some, None, if◌then◌else◌, refl, sym, ap, ◌∙◌}
 use Rattle.std.proofs.lemmas.List.{append-nil}
-use Rattle.tree_nodes.specs.Along.{all, each, first_column, other_columns}
+use Rattle.tree_nodes.specs.Along.{each, first_column, other_columns}
 use Rattle.tree_nodes.specs.Kinds.{is_kind}
 use Rattle.tree_nodes.specs.Look.{onto}
 use Rattle.tree_nodes.specs.Roles.{role_at}

@@ -1,5 +1,5 @@
 -- Bound names by roles: which role declares makes no difference.
-use Rattle.std.proofs.Common.{◌≡◌, ℕ, Bool, true, false, not, ◌&&◌, List, [], ◌∷◌, ◌++◌, if◌then◌else◌, refl, sym, ap, ap₂, ◌∙◌, true≢false}
+use Rattle.std.proofs.Common.{◌≡◌, Bool, true, false, not, ◌&&◌, List, [], ◌∷◌, ◌++◌, if◌then◌else◌, refl, sym, ap, ap₂, ◌∙◌, true≢false}
 use Rattle.std.proofs.lemmas.Bool.{eqb-true}
 use Rattle.std.proofs.lemmas.List.Elements.{All-append, All-cons, All-nil}
 use Rattle.std.specs.Prelude.{All}
@@ -7,7 +7,7 @@ use Rattle.tree_nodes.specs.Along.{Along, all, each, first_column, other_columns
 use Rattle.tree_nodes.specs.Kinds.{is_kind, kind_at, kind_at-kind_number, kind_number}
 use Rattle.tree_nodes.specs.Roles.{role_at}
 use Rattle.tree_nodes.specs.Standing.{declares_role}
-use Rattle.tree_nodes.specs.Table.{Column, row}
+use Rattle.tree_nodes.specs.Table.{row}
 use Rattle.tree_nodes.specs.Tree.{Parts, Tree, alone, atom, child, done, many}
 use Rattle.tree_nodes.specs.declared.kind.Kind.{Kind}
 use Rattle.tree_nodes.specs.declared.kind.Kind.TheVariants.{Identifier}
@@ -16,7 +16,7 @@ use Rattle.tree_nodes.specs.declared.table.Mode.{Mode}
 use Rattle.tree_nodes.specs.declared.table.Mode.TheVariants.{ByKind, ByOperator, Gives, Leaves, NamesExpression, NamesFunction, Same, UnlessComputed, UnlessOptional, UnlessSource}
 use Rattle.tree_nodes.specs.declared.table.Role.{Role}
 use Rattle.tree_nodes.specs.declared.table.Role.TheVariants.{Called, Declares, MemberKey, Plain, Read, ReadWrite, Write}
-use Rattle.tree_patterns.specs.BoundNames.{BoundNamesAreIdentifiers, bound, bound_names, declares, declaring, hands_on}
+use Rattle.tree_patterns.specs.BoundNames.{BoundNamesAreIdentifiers, bound, declares, declaring, hands_on}
 use Rattle.tree_patterns.specs.ByRoles.{BoundNamesAreDeclared, declared}
 use Rattle.tree_patterns.proofs.Runs.{if_so}
 
