@@ -9,15 +9,13 @@ use tree_nodes::roles::flag_at;
 use tree_nodes::{Field, FieldList, Kind, Node, TreeText, own_name_at};
 
 fn node(alloc: Global, kind: Kind, fields: Vec<Field>) -> Result<Box<Node>, AllocError> {
-    Box::new(
-        alloc,
-        Node {
-            kind,
-            start: 0,
-            end: 0,
-            fields: FieldList::from_vec(fields),
-        },
-    )
+    let node = Node {
+        kind,
+        start: 0,
+        end: 0,
+        fields: FieldList::from_vec(fields),
+    };
+    Ok(Box::new(alloc, node)?)
 }
 
 fn identifier(alloc: Global, name: &str) -> Result<Box<Node>, AllocError> {
@@ -95,6 +93,7 @@ fn names_are_given_and_shorthands_end(rt: HostRuntime) -> Result<(), Fail> {
 }
 
 #[test]
+#[tactic(auto, unfolding(crate::specs::Chosen::spare_plain))]
 fn a_program_keeps_its_source_type(rt: HostRuntime) -> Result<(), Fail> {
     let alloc = rt.alloc();
     let value = Value::from_str(
