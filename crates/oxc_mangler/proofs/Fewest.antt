@@ -21,7 +21,7 @@ unfolding all_open
 apart_all x [] a = tt
 apart_all x (y ∷ ys) a = (ne_eqb x y a.0, apart_all x ys a.1)
 
-distinct_from : (xs : List ℕ) → PairsOf (λ x y. x ≡ y → ⊥) xs → IsDistinct eqb xs
+pub distinct_from : (xs : List ℕ) → PairsOf (λ x y. x ≡ y → ⊥) xs → IsDistinct eqb xs
 unfolding IsDistinct
 distinct_from [] p = tt
 distinct_from (x ∷ xs) p = (apart_all x xs p.0, distinct_from xs p.1)

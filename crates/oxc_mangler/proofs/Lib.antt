@@ -9,6 +9,7 @@ pub mod Counting
 pub mod Passing
 pub mod PrivateChains
 pub mod Untaken
+pub mod Ranks
 pub mod SlotNamed
 pub mod Renamed
 pub mod Used
@@ -21,3 +22,6 @@ pub mod Shortest
 pub mod Characters
 pub mod Guarded
 pub mod NextNames
+pub mod FirstFree
+pub mod Queues
+pub mod HandedOut

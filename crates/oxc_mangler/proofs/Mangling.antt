@@ -12,7 +12,8 @@ use Rattle.oxc_mangler.proofs.Passing.{among-in}
 use Rattle.oxc_mangler.proofs.PrivateChains.{from-distinct, in-among, private_names_keep_bindings, to-distinct}
 use Rattle.oxc_mangler.proofs.Renamed.{given-by_slot, named-under}
 use Rattle.oxc_mangler.proofs.Runs.{of-each}
-use Rattle.oxc_mangler.proofs.SlotNamed.{from-count, given_name_in, given_names_fit, in-count, map-apart}
+use Rattle.oxc_mangler.proofs.Ranks.{in-count}
+use Rattle.oxc_mangler.proofs.SlotNamed.{from-count, given_name_in, given_names_fit, map-apart}
 use Rattle.oxc_mangler.proofs.Untaken.{free-spelled}
 use Rattle.oxc_mangler.proofs.Used.{slot_found, slot_used}
 use Rattle.oxc_mangler.specs.FreeNames.{is_free, is_spelled, is_taken, is_unchanged}

@@ -52,7 +52,7 @@ each_passes test (suc count) k h x i = go i (each_passes test count (suc k) (λ 
 -- ---- the names that are refused
 
 module _ (inserted : List Text) where
-  is_listed : (x : Text) → is_refused inserted x ≡ true → In x (reserved_keywords ++ (name_eval ∷ name_arguments ∷ inserted))
+  pub is_listed : (x : Text) → is_refused inserted x ≡ true → In x (reserved_keywords ++ (name_eval ∷ name_arguments ∷ inserted))
   unfolding all_open is_refused is_never_given
   is_listed x h = last (or_cases _ _ h)
     where
@@ -73,7 +73,7 @@ module _ (inserted : List Text) where
       last (inl e) = next (or_cases _ _ e)
       last (inr e) = past (inr (inr (among-in inserted x e)))
 
-  how_many : length reserved_keywords ≡ 46
+  pub how_many : length reserved_keywords ≡ 46
   unfolding all_open
   how_many = refl
 

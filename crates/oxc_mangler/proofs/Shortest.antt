@@ -11,7 +11,8 @@ use Rattle.oxc_mangler.proofs.Fewest.{count-apart, count-length}
 use Rattle.oxc_mangler.proofs.Given.{Placed, from-filter, from-map, in-filter, member_at, members-at, tells}
 use Rattle.oxc_mangler.proofs.Mangling.{grouped_open, new, new_open, places-new, slot_name_of, used_name}
 use Rattle.oxc_mangler.proofs.Numbered.{lengths_never_fall}
-use Rattle.oxc_mangler.proofs.SlotNamed.{count-at, filter-apart, from-count, given_name_in, given_names_fit, heavier-shorter, in-count, map-apart}
+use Rattle.oxc_mangler.proofs.Ranks.{in-count}
+use Rattle.oxc_mangler.proofs.SlotNamed.{count-at, filter-apart, from-count, given_name_in, given_names_fit, heavier-shorter, map-apart}
 use Rattle.oxc_mangler.proofs.Spelled.{spelled-short}
 use Rattle.oxc_mangler.proofs.Totals.{no_dearer, one_more, total, total-same, total_none}
 use Rattle.oxc_mangler.proofs.Untaken.{candidate_one, free-different, free-length}

@@ -172,7 +172,7 @@ module _ (name : ℕ → Text) (one : (m n : ℕ) → name m ≡ name n → m �
           let b : length (first_untaken name taken fuel n (suc k)) < n = w.1 in
           inr (omega (arith, a), omega (arith, b))
 
-  enough : (listed : List Text) → ((x : Text) → taken x ≡ true → In x listed) → (fuel n k : ℕ) → n + length listed ≤ fuel → length (first_untaken name taken fuel n k) ≡ n
+  pub enough : (listed : List Text) → ((x : Text) → taken x ≡ true → In x listed) → (fuel n k : ℕ) → n + length listed ≤ fuel → length (first_untaken name taken fuel n k) ≡ n
   enough listed f fuel n k h = go (scan fuel n k)
     where
       few : length (passed fuel n k) ≤ length listed

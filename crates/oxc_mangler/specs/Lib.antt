@@ -7,6 +7,8 @@ pub mod Guard
 pub mod NextName
 pub mod Slots
 pub mod GivenNames
+pub mod FirstFree
+pub mod SlotOrder
 pub mod PrivateNumbers
 pub mod Mangled
 pub mod Laws

@@ -3,6 +3,8 @@
 #![tactic(auto)]
 
 mod bound_laws;
+mod first_free;
+mod given_names;
 mod guard;
 mod laws;
 mod next_name;
@@ -13,6 +15,8 @@ mod shortest_laws;
 mod tests;
 
 pub use bound_laws::names_are_bounded;
+pub use first_free::free_names;
+pub use given_names::slot_names;
 pub use guard::Guard;
 pub use laws::{
     given_names_keep_bindings, lengths_never_fall, live_together, live_up_to_home,

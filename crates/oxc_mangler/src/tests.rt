@@ -1,6 +1,6 @@
 //! Each public call with ample memory, by values from outside.
 
-use crate::{Guard, base54, free_name_from};
+use crate::{Guard, base54, free_name_from, free_names, slot_names};
 use std::test::Fail;
 
 #[test]
@@ -54,5 +54,87 @@ fn free_names_are_found(rt: HostRuntime) -> Result<(), Fail> {
     guard.insert("r")?;
     assert_eq!(rt; free_name_from(0, &guard), 2);
     assert_eq!(rt; free_name_from(3, &guard), 4);
+    Ok(())
+}
+
+#[test]
+fn free_names_follow_their_numbers(rt: HostRuntime) -> Result<(), Fail> {
+    let guard = Guard::new(rt.alloc());
+    let names = free_names(rt.alloc(), &guard, false, 200)?;
+    assert_eq!(rt; names.len(), 200);
+    for (place, name) in [
+        (0, "e"),
+        (53, "$"),
+        (54, "ee"),
+        (59, "ae"),
+        (165, "rn"),
+        (166, "an"),
+    ] {
+        assert_eq!(rt; names[place].as_str(), name, "place {place}");
+    }
+    Ok(())
+}
+
+#[test]
+fn free_names_pass_over_what_was_inserted(rt: HostRuntime) -> Result<(), Fail> {
+    let mut guard = Guard::new(rt.alloc());
+    guard.insert("e")?;
+    guard.insert("n")?;
+    guard.insert("slot_1")?;
+    let short = free_names(rt.alloc(), &guard, false, 3)?;
+    let readable = free_names(rt.alloc(), &guard, true, 11)?;
+    assert_eq!(rt; short.len(), 3);
+    assert_eq!(rt; readable.len(), 11);
+    for (place, name) in [(0, "t"), (1, "r"), (2, "i")] {
+        assert_eq!(rt; short[place].as_str(), name, "place {place}");
+    }
+    for (place, name) in [(0, "slot_0"), (1, "slot_2"), (8, "slot_9"), (10, "slot_11")] {
+        assert_eq!(rt; readable[place].as_str(), name, "place {place}");
+    }
+    Ok(())
+}
+
+#[test]
+fn names_of_one_length_go_by_rising_slot(rt: HostRuntime) -> Result<(), Fail> {
+    let guard = Guard::new(rt.alloc());
+    let names = free_names(rt.alloc(), &guard, false, 3)?;
+    let given = slot_names(rt.alloc(), names, &[1, 3, 2])?;
+    for (slot, name) in [(0, "e"), (1, "t"), (2, "n")] {
+        assert_eq!(rt; given[slot].as_str(), name, "slot {slot}");
+    }
+    Ok(())
+}
+
+#[test]
+fn heavier_slots_get_shorter_names(rt: HostRuntime) -> Result<(), Fail> {
+    let guard = Guard::new(rt.alloc());
+    let mut weights = [7; 56];
+    weights[0] = 1;
+    weights[3] = 9;
+    weights[20] = 0;
+    weights[55] = 9;
+    let names = free_names(rt.alloc(), &guard, false, 56)?;
+    let given = slot_names(rt.alloc(), names, &weights)?;
+    for (slot, name) in [
+        (0, "ee"),
+        (1, "e"),
+        (3, "n"),
+        (19, "v"),
+        (20, "te"),
+        (21, "y"),
+        (55, "$"),
+    ] {
+        assert_eq!(rt; given[slot].as_str(), name, "slot {slot}");
+    }
+    Ok(())
+}
+
+#[test]
+fn of_slots_with_one_weight_the_lower_gets_the_shorter_name(rt: HostRuntime) -> Result<(), Fail> {
+    let guard = Guard::new(rt.alloc());
+    let names = free_names(rt.alloc(), &guard, false, 55)?;
+    let given = slot_names(rt.alloc(), names, &[4; 55])?;
+    assert_eq!(rt; given[0].as_str(), "e");
+    assert_eq!(rt; given[54].as_str(), "ee");
     Ok(())
 }
