@@ -1,10 +1,10 @@
 -- A run that looks like one which fits the node table fits it too, if its names are identifier names.
-use Rattle.std.proofs.Common.{◌≡◌, ℕ, ◌<◌, ◌^◌, Bool, true, List, [], ◌∷◌, refl, sym, ap, subst, ◌∙◌}
+use Rattle.std.proofs.Common.{◌≡◌, ℕ, ◌<◌, ◌^◌, Bool, true, List, [], ◌∷◌, sym, ap, subst, ◌∙◌}
 use Rattle.tree_core.proofs.Fits.{FitFields, FitItems, Fits, FitsAtom, FitsHead, FitsNext}
 use Rattle.tree_core.specs.Supported.{is_supported}
 use Rattle.tree_core.specs.Values.{is_null_atom}
 use Rattle.tree_nodes.specs.Table.{Column, row}
-use Rattle.tree_nodes.specs.Tree.{Atom, Parts, Tree, alone, atom, child, done, empty, is_empty, many}
+use Rattle.tree_nodes.specs.Tree.{Atom, Parts, Tree, alone, atom, child, done, is_empty, many}
 use Rattle.tree_nodes.specs.declared.kind.Kind.{Kind}
 use Rattle.tree_nodes.specs.declared.table.Class.{Class as FieldClass}
 use Rattle.tree_nodes.specs.declared.table.Class.TheVariants.{Pattern}

@@ -1,10 +1,10 @@
 -- A run that fits the node table is formed: each place has a name alone, and each Property a key, a value and three flags.
-use Rattle.std.proofs.Common.{◌≡◌, ℕ, Bool, true, false, List, [], ◌∷◌, Option, Some, None, option_map, option_and_then, if◌then◌else◌, refl, sym, ap, ◌∙◌, subst, IsUtf8}
+use Rattle.std.proofs.Common.{◌≡◌, ℕ, Bool, true, List, [], ◌∷◌, Option, Some, None, if◌then◌else◌, refl, sym, ap, ◌∙◌, subst}
 use Rattle.json_text.proofs.Units.{AreCodeUnits-units_of, IsUtf8-text_of_units, text_of_units-units_of}
-use Rattle.json_text.specs.Json.{Json, null, truth}
+use Rattle.json_text.specs.Json.{null, truth}
 use Rattle.json_text.specs.Units.{text_of_units, units_of}
 use Rattle.syntax_lex.specs.Identifier.{is_identifier_name}
-use Rattle.tree_core.proofs.Fits.{FitFields, FitItems, Fits, FitsAtom, FitsHead, TakesList, TakesNode}
+use Rattle.tree_core.proofs.Fits.{FitFields, FitItems, Fits, FitsAtom, TakesList, TakesNode}
 use Rattle.tree_core.specs.Reading.{one, text_in}
 use Rattle.tree_core.specs.Values.{atom_value}
 use Rattle.tree_nodes.proofs.Cases.{if_some, none_some, then_some}
@@ -12,7 +12,6 @@ use Rattle.tree_nodes.specs.Table.{Column, row}
 use Rattle.tree_nodes.specs.Tree.{Atom, Parts, Text, Tree, alone, atom, child, done, empty, flag, many, text, text_of, units, whole, word}
 use Rattle.tree_nodes.specs.declared.kind.Kind.{Kind}
 use Rattle.tree_nodes.specs.declared.kind.Kind.TheVariants.{Identifier, PrivateIdentifier, Property}
-use Rattle.tree_nodes.specs.declared.table.Class.{Class as FieldClass}
 use Rattle.tree_nodes.specs.declared.table.Class.TheVariants.{Flag, Name, One, Word}
 use Rattle.tree_nodes.specs.declared.table.Group.{Group}
 use Rattle.tree_nodes.specs.declared.table.Group.TheVariants.{Keys, PropertyValues}

@@ -2,7 +2,7 @@
 use Rattle.std.proofs.Common.{◌≡◌, ℕ, suc, Bool, true, false, ◌&&◌, List, [], ◌∷◌, ◌++◌, length, Option, bytes_eq, drop, if◌then◌else◌, refl, sym, ap, ap₂, ◌∙◌, ◌+◌}
 use Rattle.std.proofs.lemmas.List.{length-append}
 use Rattle.tree_nodes.specs.Standing.{own_name}
-use Rattle.tree_nodes.specs.Tree.{Parts, Text, atom, child, done, flag, flag_of, many, part, text}
+use Rattle.tree_nodes.specs.Tree.{Parts, Text, atom, child, done, flag, flag_of, many, part}
 use Rattle.tree_nodes.specs.declared.kind.Kind.{Kind}
 use Rattle.tree_nodes.specs.declared.kind.Kind.TheVariants.{Property}
 use Rattle.tree_places.specs.Renaming.{agreements, both, is_property, marks}

@@ -1,12 +1,11 @@
 -- Runs whose names are identifier names.
-use Rattle.std.proofs.Common.{◌≡◌, ℕ, Bool, true, false, List, [], ◌∷◌, ◌++◌, if◌then◌else◌, sym, subst}
+use Rattle.std.proofs.Common.{List, [], ◌∷◌, ◌++◌, sym, subst}
 use Rattle.std.specs.List.{AllByRecursion}
 use Rattle.std.specs.Prelude.{⊤}
-use Rattle.tree_nodes.specs.Table.{row}
 use Rattle.tree_nodes.specs.Tree.{Parts, Text, atom, child, done, many, text_of}
 use Rattle.tree_nodes.specs.declared.kind.Kind.{Kind}
 use Rattle.tree_nodes.specs.declared.kind.Kind.TheVariants.{Identifier, PrivateIdentifier}
-use Rattle.tree_places.specs.Places.{is_place, names}
+use Rattle.tree_places.specs.Places.{names}
 use Rattle.tree_rename.specs.Laws.{IsName}
 use Rattle.tree_rename.proofs.Names.{own_names, place_kind}
 use Rattle.tree_rename.specs.Renamed.{has_name}

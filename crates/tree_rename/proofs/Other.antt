@@ -1,10 +1,10 @@
 -- The fields of a node that is renamed, beside fields that look the same and fit where the old ones did.
-use Rattle.std.proofs.Common.{◌≡◌, ℕ, Bool, true, false, List, [], refl, sym, ap, subst, ◌∙◌}
+use Rattle.std.proofs.Common.{◌≡◌, ℕ, Bool, true, false, [], refl, sym, ap, subst, ◌∙◌}
 use Rattle.tree_core.proofs.Fits.{FitFields}
 use Rattle.tree_nodes.specs.Along.{Along, each}
 use Rattle.tree_nodes.specs.Standing.{stands}
 use Rattle.tree_nodes.specs.Table.{row}
-use Rattle.tree_nodes.specs.Tree.{Atom, Parts, Text, atom, child, done, flag, many, text, text_of}
+use Rattle.tree_nodes.specs.Tree.{Atom, Parts, Text, atom, child, done, flag, text, text_of}
 use Rattle.tree_nodes.specs.declared.kind.Kind.{Kind}
 use Rattle.tree_nodes.specs.declared.kind.Kind.TheVariants.{Identifier, PrivateIdentifier, Property}
 use Rattle.tree_nodes.specs.declared.table.Role.{Role}

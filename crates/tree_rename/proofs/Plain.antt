@@ -1,5 +1,5 @@
 -- A run whose plain names get no new ones is renamed.
-use Rattle.std.proofs.Common.{◌≡◌, ℕ, Bool, true, false, not, ◌&&◌, ◌||◌, List, [], ◌∷◌, Option, Some, None, is_some, drop, reverse, if◌then◌else◌, refl, sym, ap, ap₂, ◌∙◌}
+use Rattle.std.proofs.Common.{◌≡◌, ℕ, Bool, true, false, not, ◌||◌, List, [], ◌∷◌, Option, Some, None, is_some, reverse, if◌then◌else◌, refl, sym, ap, ap₂, ◌∙◌}
 use Rattle.tree_nodes.proofs.Cases.{both}
 use Rattle.tree_nodes.specs.Tree.{Parts, Text}
 use Rattle.tree_places.proofs.Blind.{seen-blind}

@@ -1,12 +1,11 @@
 -- Where a node may stand is told without its names and its shorthand mark.
-use Rattle.std.proofs.Common.{◌≡◌, ℕ, Bool, true, false, not, ◌&&◌, ◌||◌, nat_eq, [], ◌∷◌, if◌then◌else◌, refl, sym, ap, ap₂, ◌∙◌}
+use Rattle.std.proofs.Common.{◌≡◌, true, false, not, ◌&&◌, ◌||◌, nat_eq, [], ◌∷◌, if◌then◌else◌, refl, ap, ap₂, ◌∙◌}
 use Rattle.tree_nodes.specs.Kinds.{is_in, is_kind}
 use Rattle.tree_nodes.specs.Literals.{by_raw, case_from, case_of, has_case, is_key, is_text, with_value, without_value}
 use Rattle.tree_nodes.specs.Standing.{admits, bodies, group_admits, is_expression, is_named, is_plain_key, is_read, is_string_literal, is_var_alone, module_declarations, statements, word_in}
-use Rattle.tree_nodes.specs.Tree.{Atom, Parts, atom, child, done, empty, flag, flag_of, many, part, text, text_of, units, whole, word}
+use Rattle.tree_nodes.specs.Tree.{Atom, Parts, atom, empty, flag, part, text, text_of, units, whole, word}
 use Rattle.tree_nodes.specs.declared.kind.Kind.{Kind}
 use Rattle.tree_nodes.specs.declared.kind.Kind.TheVariants.{ClassDeclaration, FunctionDeclaration, Identifier, Literal, PrivateIdentifier, VariableDeclaration}
-use Rattle.tree_nodes.specs.declared.literals.LiteralCase.{LiteralCase}
 use Rattle.tree_nodes.specs.declared.literals.LiteralCase.TheVariants as case
 use Rattle.tree_nodes.specs.declared.table.Class.{Class as FieldClass}
 use Rattle.tree_nodes.specs.declared.table.Class.TheVariants.{Holes, Many, ManyOr, Maybe, One}

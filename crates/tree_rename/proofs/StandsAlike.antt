@@ -1,18 +1,18 @@
 -- A run that looks like one whose nodes stand where they may has its nodes where they may stand, if each shorthand mark in it stood there before and the names of key and value agree.
-use Rattle.std.proofs.Common.{◌≡◌, ℕ, suc, ◌+◌, Bool, true, false, not, ◌&&◌, ◌||◌, List, [], ◌∷◌, ◌++◌, length, bytes_eq, if◌then◌else◌, refl, sym, ap, ap₂, subst, ◌∙◌}
+use Rattle.std.proofs.Common.{◌≡◌, ℕ, suc, ◌+◌, Bool, true, false, not, ◌&&◌, ◌||◌, List, [], ◌∷◌, ◌++◌, length, if◌then◌else◌, refl, sym, ap, ap₂, ◌∙◌}
 use Rattle.std.proofs.lemmas.List.{length-append}
 use Rattle.tree_nodes.proofs.Cases.{both as both_true}
 use Rattle.tree_nodes.specs.Along.{Along, all, each, first_column, other_columns}
 use Rattle.tree_nodes.specs.Literals.{has_case}
 use Rattle.tree_nodes.specs.Roles.{role_at}
-use Rattle.tree_nodes.specs.Standing.{group_admits, is_identifier, is_placed, is_short, is_sound, own_name, root_column, stands}
-use Rattle.tree_nodes.specs.Table.{Column, row}
-use Rattle.tree_nodes.specs.Tree.{Atom, Parts, Tree, alone, atom, child, done, flag, flag_of, many, part, text}
+use Rattle.tree_nodes.specs.Standing.{group_admits, is_identifier, is_placed, is_short, is_sound, root_column, stands}
+use Rattle.tree_nodes.specs.Table.{row}
+use Rattle.tree_nodes.specs.Tree.{Parts, Tree, alone, atom, child, done, flag, flag_of, many, part, text}
 use Rattle.tree_nodes.specs.declared.kind.Kind.{Kind}
 use Rattle.tree_nodes.specs.declared.kind.Kind.TheVariants.{Identifier, Literal, PrivateIdentifier, Property}
 use Rattle.tree_nodes.specs.declared.table.Role.{Role}
 use Rattle.tree_nodes.specs.declared.table.Role.TheVariants.{Plain}
-use Rattle.tree_places.proofs.Blind.{flag_at, flag-blind, part-blind, role-blind}
+use Rattle.tree_places.proofs.Blind.{flag_at, part-blind, role-blind}
 use Rattle.tree_places.specs.Open.{all_open}
 use Rattle.tree_places.specs.Places.{hide, unmarked, unnamed}
 use Rattle.tree_places.specs.Renaming.{agreements, blind, both, is_property, marks}

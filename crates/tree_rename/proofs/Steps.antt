@@ -1,11 +1,11 @@
 -- One step of a loop that renames what a list holds.
-use Rattle.std.proofs.Common.{◌≡◌, ℕ, zero, suc, ◌+◌, ◌<◌, ◌≤◌, List, [], ◌∷◌, ◌++◌, Option, Some, None, Result, Ok, Err, IfOk, length, drop, take, get_or, slice_set, map, refl, sym, ap, ◌∙◌, arith}
+use Rattle.std.proofs.Common.{◌≡◌, ℕ, zero, suc, ◌+◌, ◌<◌, ◌≤◌, List, [], ◌∷◌, ◌++◌, Option, Some, None, Result, Ok, Err, IfOk, length, drop, take, get_or, slice_set, refl, sym, ap, ◌∙◌, arith}
 use Rattle.std.proofs.Math.ListN.{drop_of_length-le}
 use Rattle.std.proofs.Math.Seq.{drop-cons}
 use Rattle.std.proofs.lemmas.Grind.{drop_more_same}
 use Rattle.std.proofs.lemmas.List.{append-nil, drop_all, drop-set-lt, take_all, take_more_set}
 use Rattle.tree_nodes.specs.Look.{item_size, onto, part_size, parts_size}
-use Rattle.tree_nodes.specs.Tree.{Parts, Text, Tree, atom, done}
+use Rattle.tree_nodes.specs.Tree.{Parts, Text, Tree, done}
 use Rattle.tree_nodes.specs.Views.{item_of, items_of, part_of, parts_of}
 use Rattle.tree_nodes.specs.declared.node.Field.{Field}
 use Rattle.tree_nodes.specs.declared.node.Field.TheVariants.{Empty, Flag, Word, Text as FieldText, Str, Whole, Child, List as Several}

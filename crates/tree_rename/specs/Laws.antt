@@ -7,7 +7,7 @@ use Rattle.tree_nodes.specs.Tree.{Text, Tree, alone}
 use Rattle.tree_places.specs.Places.{names}
 use Rattle.tree_places.specs.Renaming.{IsRenamed}
 
--- a text that is an identifier name
+-- a text, in UTF-8, that is an identifier name
 abbrev pub IsName : Text → Type 0
 IsName x = IsUtf8 x × (is_identifier_name x ≡ true)
 

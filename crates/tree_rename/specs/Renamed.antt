@@ -1,7 +1,7 @@
 -- The tree that the walk makes.
 use Rattle.std.specs.Prelude.{ℕ, zero, suc, ◌+◌, Bool, true, false, List, Option, drop, bytes_eq, if◌then◌else◌}
 use Rattle.tree_nodes.specs.Standing.{own_name}
-use Rattle.tree_nodes.specs.Tree.{Parts, Text, atom, child, done, flag, flag_of, many, part, text}
+use Rattle.tree_nodes.specs.Tree.{Parts, Text, atom, child, done, flag, many, part, text}
 use Rattle.tree_nodes.specs.declared.kind.Kind.{Kind}
 use Rattle.tree_nodes.specs.declared.kind.Kind.TheVariants.{Identifier, PrivateIdentifier, Property}
 use Rattle.tree_rename.specs.Chosen.{given_name, or_own}

@@ -1,7 +1,6 @@
-use Rattle.std.proofs.Common.{ap, map, string_bytes, subst, ◌∙◌}
+use Rattle.std.proofs.Common.{ap, map, string_bytes, ◌∙◌}
 use Rattle.tree_nodes.specs.Tree.{alone}
 use Rattle.tree_places.specs.Places.{names}
-use Rattle.tree_places.specs.Renaming.{IsRenamed}
 use Rattle.tree_rename.specs.Renamed.{renamed}
 use Rattle.tree_rename.proofs.Programs.{program_renamed, texts_are_names}
 use Rattle.tree_rename.proofs.renaming.rename.Goals as goal

@@ -1,5 +1,5 @@
-use Rattle.std.proofs.Common.{◌≡◌, ◌<◌, ◌≤◌, length, drop, map, string_bytes, slice_index_or, refl, sym, ap, ◌∙◌, arith, rules}
-use Rattle.tree_nodes.specs.Look.{item_size, part_size, parts_size}
+use Rattle.std.proofs.Common.{◌≡◌, ◌<◌, length, drop, map, string_bytes, slice_index_or, refl, ap, ◌∙◌, arith, rules}
+use Rattle.tree_nodes.specs.Look.{part_size, parts_size}
 use Rattle.tree_nodes.specs.Views.{item_of, items_of, part_of, parts_of}
 use Rattle.tree_rename.specs.Renamed.{count, finished, renamed}
 use Rattle.tree_rename.proofs.Runs.{list_left, list_made, node_left, node_made}

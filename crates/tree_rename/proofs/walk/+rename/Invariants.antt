@@ -1,6 +1,6 @@
 use Rattle.std.proofs.Common.{◌≡◌, ◌+◌, ◌*◌, drop, map, string_bytes, take}
 use Rattle.tree_nodes.specs.Look.{item_size, onto, part_size, parts_size, tree_size}
-use Rattle.tree_nodes.specs.Views.{item_of, items_of, part_of, parts_of}
+use Rattle.tree_nodes.specs.Views.{items_of, part_of, parts_of}
 use Rattle.tree_rename.specs.Renamed.{count, renamed}
 use Rattle.tree_rename.proofs.walk.+rename.Given as goal
 
