@@ -31,12 +31,12 @@ returns-clause-names c =
     (free_are o es (slot_owners o es) c.in_ok-guard.guard _ c.readable.result (length c.as_slice-weights.result.now) c.readable.ensures count
     (subst (λ (n : ℕ). length c.in_ok-guard.guard ≤ length o.reserved + n) (sym (length-map c.args.entries.now entry_view)) c.in_ok-guard.ensures.few)
     c.in_ok-guard.ensures.refuses c.in_ok-free.ensures.first)
-    weights c.in_ok-names.ensures
+    weights c.in_ok-names.ensures.names
 
 pub returns-clause-within : goal.returns-clause-within
 returns-clause-within c =
     subst (λ (n : ℕ). AreWithin c.in_ok-slots.slots.places.items n) (length-map c.in_ok-names.names.items string_bytes)
-    (choices_within c.args.options.now (map entry_view c.args.entries.now) _ _ _ c.as_slice-weights.result.now c.in_ok-slots.ensures.places (c.as_slice-weights.ensures.value ∙ c.in_ok-slots.ensures.weights) c.in_ok-names.ensures)
+    (choices_within c.args.options.now (map entry_view c.args.entries.now) _ _ _ c.as_slice-weights.result.now c.in_ok-slots.ensures.places (c.as_slice-weights.ensures.value ∙ c.in_ok-slots.ensures.weights) c.in_ok-names.ensures.names)
 
 pub returns-clause-chosen : goal.returns-clause-chosen
 returns-clause-chosen c = chosen_are c.args.options.now entry_view c.args.entries.now _ _ c.in_ok-slots.ensures.places (returns-clause-names c)
