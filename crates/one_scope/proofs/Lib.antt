@@ -18,14 +18,3 @@ pub mod Owners
 pub mod Weights
 pub mod Taken
 pub mod Given
-mod Texts
-mod Clashes
-mod Distinct
-mod Owners
-mod Weights
-mod Taken
-mod Given
-mod WalkInner
-mod WalkSteps
-mod WalkPlaces
-mod WalkFlat
