@@ -1,11 +1,14 @@
 //! Each public call on entries with ample memory, on entries that are written out.
 
 use crate::{Entry, MangleOptions, has_fault, keeps_all, new_names, slots_of};
+use std::alloc::{AllocError, Global};
 use std::test::Fail;
 use tree_nodes::{Declared, Role};
 
 const VAR: Role = Role::Declares(Declared::Var);
+
 const LET: Role = Role::Declares(Declared::Let);
+
 const CONST: Role = Role::Declares(Declared::Const);
 
 fn entry(role: Role, name: &str) -> Entry<'_> {
@@ -14,6 +17,16 @@ fn entry(role: Role, name: &str) -> Entry<'_> {
         role,
         name,
     }
+}
+
+// The names with a space behind each.
+fn joined(alloc: Global, names: &[String]) -> Result<String, AllocError> {
+    let mut text = String::new(alloc);
+    for name in names {
+        text.push_str(name.as_str())?;
+        text.push(' ')?;
+    }
+    Ok(text)
 }
 
 #[test]
@@ -68,13 +81,8 @@ fn slots_go_by_first_declaration(rt: HostRuntime) -> Result<(), Fail> {
     ];
     let slots = slots_of(rt.alloc(), &options, &entries)?;
     let places = [Some(1), Some(0), None, Some(1), Some(1), Some(1), None];
-    for (place, slot) in places.iter().enumerate() {
-        assert_eq!(rt; slots.places[place], *slot, "place {place}");
-    }
-    assert_eq!(rt; slots.places.len(), 7);
-    assert_eq!(rt; slots.weights.len(), 2);
-    assert_eq!(rt; slots.weights[0], 0);
-    assert_eq!(rt; slots.weights[1], 2);
+    assert!(rt; slots.places.as_slice() == places.as_slice(), "places");
+    assert!(rt; slots.weights.as_slice() == [0, 2].as_slice(), "weights");
     Ok(())
 }
 
@@ -89,12 +97,10 @@ fn names_pass_over_those_that_are_taken(rt: HostRuntime) -> Result<(), Fail> {
         entry(Role::Read, "second"),
     ];
     let new = new_names(rt.alloc(), &options, &entries)?;
-    assert_eq!(rt; new.names.len(), 2);
-    assert_eq!(rt; new.names[0].as_str(), "n");
-    assert_eq!(rt; new.names[1].as_str(), "r");
-    for (place, slot) in [Some(0), Some(1), None, Some(1)].iter().enumerate() {
-        assert_eq!(rt; new.choices[place], *slot, "place {place}");
-    }
+    let names = joined(rt.alloc(), new.names.as_slice())?;
+    assert_eq!(rt; names.as_str(), "n r ");
+    let choices = [Some(0), Some(1), None, Some(1)];
+    assert!(rt; new.choices.as_slice() == choices.as_slice(), "choices");
     Ok(())
 }
 
@@ -105,7 +111,7 @@ fn readable_names_are_numbered(rt: HostRuntime) -> Result<(), Fail> {
     options.keep_names(true, false);
     let entries = [entry(LET, "first"), entry(CONST, "second")];
     let new = new_names(rt.alloc(), &options, &entries)?;
-    assert_eq!(rt; new.names[0].as_str(), "slot_0");
-    assert_eq!(rt; new.names[1].as_str(), "slot_1");
+    let names = joined(rt.alloc(), new.names.as_slice())?;
+    assert_eq!(rt; names.as_str(), "slot_0 slot_1 ");
     Ok(())
 }

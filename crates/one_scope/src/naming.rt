@@ -21,7 +21,7 @@ pub struct NewNames {
     pub names: Vec<String>,
 }
 
-/// The new names of these places. Err is want of memory.
+/// The new names of these places, which with the reserved names are at most 2^30. Err is want of memory.
 pub fn new_names(
     alloc: Global,
     options: &MangleOptions,

@@ -1,10 +1,11 @@
 //! What a mangling is asked to do.
 
-ghost use Rattle.std.specs.Prelude.{◌≡◌, ◌≤◌, [], false, length, IfOk, OnErr};
+ghost use Rattle.std.specs.Prelude.{◌≡◌, ◌≤◌, ◌+◌, [], false, length, if◌then◌else◌, IfOk, OnErr};
 ghost use Rattle.one_scope.specs.Steps.{AreSameNames};
 ghost use Rattle.oxc_mangler.specs.Guard.{HasAlso};
 ghost use Rattle.oxc_mangler.specs.Kept.{is_reserved};
 ghost use Rattle.oxc_mangler.specs.Options.{Options};
+ghost use Rattle.tree_semantic.specs.PrivateNames.{is_among};
 
 use oxc_mangler::Guard;
 use std::alloc::{AllocError, Global};
@@ -81,11 +82,17 @@ impl MangleOptions {
     }
 
     /// Whether bindings keep the name, and none is given it.
-    #[tactic(auto, using(oxc_mangler::proofs::Guarded::among_is), unfolding(oxc_mangler::specs::Kept::is_reserved))]
     pub fn is_reserved(&self, name: &str) -> bool
         ensures { result ≡ is_reserved self.now name.now }
     {
         name == "arguments" || self.reserved.contains(name)
+    }
+
+    /// How many names are reserved.
+    pub fn reserved_len(&self) -> usize
+        ensures { result ≡ length self.now.reserved }
+    {
+        self.reserved.len()
     }
 
     /// A guard that refuses the reserved names.
@@ -103,6 +110,7 @@ impl MangleOptions {
     /// Lets bindings keep the name, and gives it to none. Err is want of memory, and nothing is changed.
     pub fn reserve(&mut self, name: &str) -> Result<(), AllocError>
         ensures reserved { IfOk result (λ _. HasAlso self.old.reserved name.now self.new.reserved) }
+        ensures once { IfOk result (λ _. length self.new.reserved ≡ length self.old.reserved + (if is_among self.old.reserved name.now then 0 else 1)) }
         ensures others { (self.new.top_level ≡ self.old.top_level) × (self.new.keep_functions ≡ self.old.keep_functions) × (self.new.keep_classes ≡ self.old.keep_classes) × (self.new.readable ≡ self.old.readable) }
         ensures err { OnErr result (self.new.reserved ≡ self.old.reserved) }
     {

@@ -21,7 +21,7 @@ pub struct Slots {
     pub weights: Vec<usize>,
 }
 
-/// The slots of these places. Err is want of memory.
+/// The slots of these places, of which there are fewer than 2^32. Err is want of memory.
 pub fn slots_of(
     alloc: Global,
     options: &MangleOptions,
