@@ -1,7 +1,6 @@
 -- A run that looks like one which fits the node table fits it too, if its names are identifier names.
 use Rattle.std.proofs.Common.{◌≡◌, ℕ, ◌<◌, ◌^◌, Bool, true, List, [], ◌∷◌, sym, ap, subst, ◌∙◌}
 use Rattle.tree_core.proofs.Fits.{FitFields, FitItems, Fits, FitsAtom, FitsHead, FitsNext}
-use Rattle.tree_core.specs.Supported.{is_supported}
 use Rattle.tree_core.specs.Values.{is_null_atom}
 use Rattle.tree_nodes.specs.Table.{Column, row}
 use Rattle.tree_nodes.specs.Tree.{Atom, Parts, Tree, alone, atom, child, done, is_empty, many}
@@ -22,9 +21,8 @@ next_fits : (class : FieldClass) (a b : Atom) (m n : Parts) → b ≡ a → is_e
 next_fits Pattern a b m n e f h = ap is_null_atom e ∙ h ∙ sym f
 next_fits _ a b m n e f h = tt
 
-head_alike : (k k' : Kind) (s s' e e' : ℕ) → k ≡ k' → s ≡ s' → e ≡ e' → FitsHead k' s' e' → FitsHead k s e
-head_alike k k' s s' e e' p q r h =
-    (subst (λ x. is_supported x ≡ true) (sym p) h.0, subst (λ x. x < 2 ^ 32) (sym q) h.1, subst (λ x. x < 2 ^ 32) (sym r) h.2)
+head_alike : (s s' e e' : ℕ) → s ≡ s' → e ≡ e' → FitsHead s' e' → FitsHead s e
+head_alike s s' e e' q r h = (subst (λ x. x < 2 ^ 32) (sym q) h.0, subst (λ x. x < 2 ^ 32) (sym r) h.1)
 
 -- what two equal nodes have in common
 pub child_same : (k k' : Kind) (s s' e e' : ℕ) (f f' m m' : Parts) → child k s e f m ≡ child k' s' e' f' m'
@@ -60,7 +58,7 @@ mutual
       let p = child_same k k' s s' e e' _ _ _ _ same in
       let o = other_fields k k' fields others p.0 p.3 w.0 n.0 in (
         f.0,
-        head_alike k k' s s' e e' p.0 p.1 p.2 f.1,
+        head_alike s s' e e' p.1 p.2 f.1,
         fit_fields fields o.fields (row k).columns o.alike (o.formed w.1) n.1 (o.fits (subst (λ x. FitFields others (row x).columns) (sym p.0) f.2)),
         fit_fields more rest cs p.4 w.2 n.2 f.3,
       )
@@ -79,7 +77,7 @@ mutual
   fit_items (child k s e fields more) (child k' s' e' others rest) holes same w n f =
       let p = child_same k k' s s' e e' _ _ _ _ same in
       let o = other_fields k k' fields others p.0 p.3 w.0 n.0 in (
-        head_alike k k' s s' e e' p.0 p.1 p.2 f.0,
+        head_alike s s' e e' p.1 p.2 f.0,
         fit_fields fields o.fields (row k).columns o.alike (o.formed w.1) n.1 (o.fits (subst (λ x. FitFields others (row x).columns) (sym p.0) f.1)),
         fit_items more rest holes p.4 w.2 n.2 f.2,
       )
@@ -91,6 +89,6 @@ unfolding blind
 tree_fits_alike u t same w n f =
     let p = child_same u.kind t.kind u.start t.start u.stop t.stop _ _ _ _ same in
     let o = other_fields u.kind t.kind u.fields t.fields p.0 p.3 w.0 n.0 in (
-      head_alike u.kind t.kind u.start t.start u.stop t.stop p.0 p.1 p.2 f.0,
+      head_alike u.start t.start u.stop t.stop p.1 p.2 f.0,
       fit_fields u.fields o.fields (row u.kind).columns o.alike (o.formed w.1) n.1 (o.fits (subst (λ x. FitFields t.fields (row x).columns) (sym p.0) f.1)),
     )
