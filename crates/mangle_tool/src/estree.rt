@@ -1,6 +1,6 @@
 //! The whole job on bytes: ESTree in JSON in, its answer out.
 
-ghost use Rattle.std.specs.Prelude.{◌≡◌, ◌↔◌, Err, IfErr, IfOk, IsTrue, None, Some, is_some, option_and_then, option_map, string_bytes};
+ghost use Rattle.std.specs.Prelude.{◌≡◌, ◌↔◌, false, Err, IfErr, IfOk, IsTrue, None, Some, is_some, option_and_then, option_map, string_bytes};
 ghost use Rattle.serde_json.specs.Find.{as_array};
 ghost use Rattle.serde_json.specs.View.{view, members_view};
 ghost use Rattle.tree_core.specs.JsonOf.{json_of};
