@@ -1,0 +1,22 @@
+-- The laws on trees whose only scope is the Program.
+use Rattle.std.specs.Prelude.{◌≡◌, true, false}
+use Rattle.one_scope.specs.Entries.{entries}
+use Rattle.one_scope.specs.Flat.{flat_new_names, has_flat_fault}
+use Rattle.one_scope.specs.OneScope.{IsFlatTree, is_one_scope}
+use Rattle.oxc_mangler.specs.Options.{Options}
+use Rattle.oxc_mangler.specs.PrivateNumbers.{new_names}
+use Rattle.tree_nodes.specs.Tree.{Parts}
+use Rattle.tree_places.specs.Places.{places}
+use Rattle.tree_semantic.specs.Bindings.{same_name}
+use Rattle.tree_semantic.specs.Faults.{has_fault, has_undeclared}
+
+-- all places of such a tree lie in the one scope
+abbrev pub OneScopeIsFlat : Type 0
+OneScopeIsFlat = (t : Parts) → is_one_scope t ≡ true → IsFlatTree t
+
+-- there faults and new names are those that the plain definitions say, and no private name is used
+abbrev pub FlatFaults : Type 0
+FlatFaults = (t : Parts) → IsFlatTree t → (has_fault same_name (places t) ≡ has_flat_fault (entries t)) × (has_undeclared same_name (places t) ≡ false)
+
+abbrev pub FlatNames : Type 0
+FlatNames = (o : Options) (t : Parts) → IsFlatTree t → new_names o t ≡ flat_new_names o (entries t)

@@ -1,0 +1,5 @@
+pub mod Entries
+pub mod OneScope
+pub mod Flat
+pub mod Laws
+pub mod Open

@@ -1,0 +1,4 @@
+//! Mangling of trees whose only scope is the Program.
+#![tactic(auto)]
+
+mod laws;
