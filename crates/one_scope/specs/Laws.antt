@@ -5,14 +5,15 @@ use Rattle.one_scope.specs.Flat.{flat_new_names, has_flat_fault}
 use Rattle.one_scope.specs.OneScope.{IsFlatTree, is_one_scope}
 use Rattle.oxc_mangler.specs.Options.{Options}
 use Rattle.oxc_mangler.specs.PrivateNumbers.{new_names}
-use Rattle.tree_nodes.specs.Tree.{Parts}
+use Rattle.tree_nodes.specs.Standing.{is_placed}
+use Rattle.tree_nodes.specs.Tree.{Parts, Tree, alone}
 use Rattle.tree_places.specs.Places.{places}
 use Rattle.tree_semantic.specs.Bindings.{same_name}
 use Rattle.tree_semantic.specs.Faults.{has_fault, has_undeclared}
 
--- all places of such a tree lie in the one scope
+-- all places of such a tree lie in the one scope, if its nodes stand where they may
 abbrev pub OneScopeIsFlat : Type 0
-OneScopeIsFlat = (t : Parts) → is_one_scope t ≡ true → IsFlatTree t
+OneScopeIsFlat = (t : Tree) → is_placed t ≡ true → is_one_scope (alone t) ≡ true → IsFlatTree (alone t)
 
 -- there faults and new names are those that the plain definitions say, and no private name is used
 abbrev pub FlatFaults : Type 0

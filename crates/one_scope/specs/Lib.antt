@@ -1,4 +1,6 @@
 pub mod Entries
+pub mod EntryViews
+pub mod Listing
 pub mod OneScope
 pub mod Flat
 pub mod Laws

@@ -1,0 +1,4 @@
+mod WalkInner
+mod WalkSteps
+mod WalkPlaces
+mod WalkFlat

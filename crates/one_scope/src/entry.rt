@@ -1,0 +1,11 @@
+//! The places of a tree whose only scope is the Program.
+
+use tree_nodes::Role;
+
+/// A place of a tree: the number of its node in printing order, what it is there, its name.
+#[derive(Clone, Copy)]
+pub struct Entry<'t> {
+    pub node: usize,
+    pub role: Role,
+    pub name: &'t str,
+}
