@@ -7,6 +7,13 @@ pub mod FlatOwners
 pub mod FlatSlots
 pub mod FlatNames
 pub mod FlatTrees
+mod Texts
+mod Clashes
+mod Distinct
+mod Owners
+mod Weights
+mod Taken
+mod Given
 mod WalkInner
 mod WalkSteps
 mod WalkPlaces

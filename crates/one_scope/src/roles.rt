@@ -1,0 +1,42 @@
+//! What a place of a role does to names.
+
+ghost use Rattle.std.specs.Prelude.{◌≡◌};
+ghost use Rattle.tree_semantic.specs.Homes.{is_declaring, is_reference, is_var};
+ghost use Rattle.tree_semantic.specs.Evals.{is_called};
+
+use tree_nodes::{Declared, Role};
+
+/// Whether it declares its name.
+#[tactic(auto, unfolding(tree_semantic::specs::Homes::is_declaring))]
+pub fn is_declaring(role: Role) -> bool
+    ensures { result ≡ is_declaring role }
+{
+    matches!(role, Role::Declares(_))
+}
+
+/// Whether it declares its name by `var`.
+#[tactic(auto, unfolding(tree_semantic::specs::Homes::is_var))]
+pub fn is_var(role: Role) -> bool
+    ensures { result ≡ is_var role }
+{
+    matches!(role, Role::Declares(Declared::Var))
+}
+
+/// Whether it refers to its name.
+#[tactic(auto, unfolding(tree_semantic::specs::Homes::is_reference))]
+pub fn is_reference(role: Role) -> bool
+    ensures { result ≡ is_reference role }
+{
+    matches!(
+        role,
+        Role::Read | Role::Write | Role::ReadWrite | Role::Called
+    )
+}
+
+/// Whether it is called directly.
+#[tactic(auto, unfolding(tree_semantic::specs::Evals::is_called))]
+pub fn is_called(role: Role) -> bool
+    ensures { result ≡ is_called role }
+{
+    matches!(role, Role::Called)
+}
