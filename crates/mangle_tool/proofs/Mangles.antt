@@ -1,8 +1,7 @@
 -- The program that is renamed by the names of its one scope is the mangled one.
-use Rattle.std.specs.Prelude.{◌≡◌, ◌<◌, ◌≤◌, ℕ, zero, suc, ◌+◌, ◌^◌, Bool, true, false, not, ◌&&◌, ◌||◌, List, [], ◌∷◌, ◌++◌, map, filter, length, get_or, slice_get, Option, Some, None, is_some, string_bytes, IsTrue, if◌then◌else◌}
-use Rattle.std.specs.declared.string.String.{String}
+use Rattle.std.specs.Prelude.{◌≡◌, ◌<◌, ◌≤◌, ℕ, zero, suc, ◌+◌, ◌^◌, Bool, true, false, not, ◌&&◌, ◌||◌, nat_eq, List, [], ◌∷◌, ◌++◌, map, filter, length, get_or, slice_get, Option, Some, None, is_some, string_bytes, IsTrue, if◌then◌else◌}
 use Rattle.std.specs.List.{AllByRecursion, Contains, position_from}
-use Rattle.std.proofs.Common.{refl, sym, ap, ◌∙◌, subst, arith, inl, inr, true≢false}
+use Rattle.std.proofs.Common.{refl, sym, ap, ◌∙◌, subst, arith, inl, inr, true≢false, Global, String}
 use Rattle.std.proofs.lemmas.List.{length-append, length-map}
 use Rattle.std.proofs.lemmas.Option.{slice_get-get_or}
 use Rattle.one_scope.proofs.FlatTrees as flat_trees
@@ -18,7 +17,7 @@ use Rattle.oxc_mangler.proofs.Fewest.{count-length}
 use Rattle.oxc_mangler.proofs.Mangling as mangling
 use Rattle.oxc_mangler.specs.GivenNames.{count_from, is_before, names_of_slots, slot_name}
 use Rattle.oxc_mangler.specs.MangledLaws.{HasNewNames}
-use Rattle.oxc_mangler.specs.Options.{Options}
+use Rattle.oxc_mangler.specs.Options.{Options, renames_root}
 use Rattle.oxc_mangler.specs.PrivateNumbers.{new_names}
 use Rattle.oxc_mangler.specs.ShortNames.{candidate}
 use Rattle.syntax_lex.specs.Identifier.{is_identifier_name}
@@ -29,7 +28,7 @@ use Rattle.tree_core.specs.Program.{IsProgram}
 use Rattle.tree_core.specs.Values.{value_of}
 use Rattle.tree_nodes.specs.Standing.{is_placed}
 use Rattle.tree_nodes.specs.Table.{row}
-use Rattle.tree_nodes.specs.Tree.{Parts, Text, Tree, alone, atom, child, done, many, text_of}
+use Rattle.tree_nodes.specs.Tree.{Parts, Text, Tree, alone, atom, child, done, many, part, text_of, word_of}
 use Rattle.tree_places.proofs.Numbers.{one_name_each}
 use Rattle.tree_places.proofs.TreesRooted as rooted
 use Rattle.tree_places.specs.Places.{Site, is_place, named_by, names, places, sites}
@@ -122,9 +121,23 @@ spare_flat [] all (c ∷ cs) = refl
 spare_flat (s ∷ ss) all [] = refl
 spare_flat (s ∷ ss) all (c ∷ cs) = ap (λ b. (not b || not (is_some c)) && spare_plain ss cs) (not_plain s all.0) ∙ spare_flat ss all.1 cs
 
-each_fits : (given : List String) → ((x : Text) → In x (map string_bytes given) → is_identifier_name x ≡ true) → AllByRecursion (λ s. IsTrue (is_identifier_name (string_bytes s))) given
+each_fits : (given : List (String Global)) → ((x : Text) → In x (map string_bytes given) → is_identifier_name x ≡ true) → AllByRecursion (λ s. IsTrue (is_identifier_name (string_bytes s))) given
 each_fits [] f = tt
 each_fits (s ∷ ss) f = (f (string_bytes s) (inl refl), each_fits ss (λ x i. f x (inr i)))
+
+few_with : (rs : List Text) (n : ℕ) → rs ≡ [] → n ≤ 2 ^ 30 → length rs + n ≤ 2 ^ 30
+few_with rs n e h = let none : length rs ≡ 0 = ap length e in omega (arith, none, h)
+
+-- options by their settings
+pub options_told : (o : Options) (t : Tree) (root : Bool) → o.top_level ≡ root → o.keep_functions ≡ false → o.keep_classes ≡ false → o.reserved ≡ [] → o.readable ≡ false
+    → root ≡ not (nat_eq (word_of (part t.fields 1)) 0) → o ≡ usual_options t
+unfolding renames_root
+options_told o t root a b c d e f =
+    ap (λ x. record { top_level = x; keep_functions = o.keep_functions; keep_classes = o.keep_classes; reserved = o.reserved; readable = o.readable }) (a ∙ f)
+    ∙ ap (λ x. record { top_level = renames_root None (alone t); keep_functions = x; keep_classes = o.keep_classes; reserved = o.reserved; readable = o.readable }) b
+    ∙ ap (λ x. record { top_level = renames_root None (alone t); keep_functions = false; keep_classes = x; reserved = o.reserved; readable = o.readable }) c
+    ∙ ap (λ x. record { top_level = renames_root None (alone t); keep_functions = false; keep_classes = false; reserved = x; readable = o.readable }) d
+    ∙ ap (λ x. record { top_level = renames_root None (alone t); keep_functions = false; keep_classes = false; reserved = []; readable = x }) e
 
 module _ (t : Tree) (program : IsProgram t) (one : is_one_scope (alone t) ≡ true) where
   placed : is_placed t ≡ true
@@ -143,6 +156,13 @@ module _ (t : Tree) (program : IsProgram t) (one : is_one_scope (alone t) ≡ tr
       let c : length (names (alone t)) ≤ suc (nodes_in t.fields + 0) = names_most (alone t) in
       let d : suc (nodes_in t.fields) < 2 ^ 30 = program.1 in
       omega (arith, a, b, c, d)
+
+  pub few_places : {X : Type 0} (view : X → Entry) (xs : List X) (reserved : List Text) → map view xs ≡ entries (alone t) → reserved ≡ [] → length reserved + length xs ≤ 2 ^ 30
+  few_places view xs reserved e none =
+      let a : length (map view xs) ≡ length xs = length-map xs view in
+      let b : length (map view xs) ≡ length (entries (alone t)) = ap length e in
+      let c : length (entries (alone t)) ≤ 2 ^ 30 = few in
+      few_with reserved (length xs) none (omega (arith, a, b, c))
 
   -- the names that are chosen
   given_told : (o : Options) → length (flat_slot_names o (entries (alone t))) ≡ length (slot_owners o (entries (alone t)))
@@ -182,6 +202,6 @@ module _ (t : Tree) (program : IsProgram t) (one : is_one_scope (alone t) ≡ tr
   spare cs = spare_flat (sites (alone t)) flat.flat cs
 
   -- the names that are given, as the code has them
-  pub given_names_fit : (given : List String) → map string_bytes given ≡ flat_slot_names (usual_options t) (entries (alone t))
+  pub given_names_fit : (given : List (String Global)) → map string_bytes given ≡ flat_slot_names (usual_options t) (entries (alone t))
       → AllByRecursion (λ s. IsTrue (is_identifier_name (string_bytes s))) given
   given_names_fit given e = each_fits given (λ x i. given_identifiers x (subst (In x) e i))

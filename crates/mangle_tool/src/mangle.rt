@@ -4,7 +4,7 @@ ghost use Rattle.std.specs.Prelude.{◌≡◌, IfErr, IfOk, false, true, map, no
 ghost use Rattle.one_scope.specs.Entries.{entries as entries_of};
 ghost use Rattle.one_scope.specs.Flat.{flat_slot_names, flat_slots, has_flat_fault};
 ghost use Rattle.one_scope.specs.OneScope.{is_one_scope};
-ghost use Rattle.tree_core.specs.Program.{source_type_at};
+ghost use Rattle.tree_core.specs.Program.{IsProgram, source_type_at};
 ghost use Rattle.tree_nodes.specs.Tree.{alone};
 ghost use Rattle.mangle_tool.specs.Answer.{IsProgramCause};
 ghost use Rattle.mangle_tool.specs.Mangling.{IsMangling, usual_options};
@@ -31,6 +31,7 @@ pub fn mangle_program(alloc: Global, program: Program) -> Result<Program, Mangle
 // The new names of the program's places.
 fn names_for(alloc: Global, program: &Program) -> Result<NewNames, MangleError>
     requires one { is_one_scope (alone program.now) ≡ true }
+    ensures program { IfOk result (λ given. IsProgram program.now) }
     ensures sound { IfOk result (λ given. has_flat_fault (entries_of (alone program.now)) ≡ false) }
     ensures choices { IfOk result (λ given. given.choices.items
         ≡ flat_slots (usual_options program.now) (entries_of (alone program.now))) }
