@@ -1,5 +1,5 @@
 -- The program that is renamed by the names of its one scope is the mangled one.
-use Rattle.std.specs.Prelude.{◌≡◌, ◌<◌, ◌≤◌, ℕ, zero, suc, ◌+◌, ◌^◌, Bool, true, false, not, ◌&&◌, ◌||◌, nat_eq, List, [], ◌∷◌, ◌++◌, map, filter, length, get_or, slice_get, Option, Some, None, is_some, string_bytes, IsTrue, if◌then◌else◌}
+use Rattle.std.specs.Prelude.{◌≡◌, ◌<◌, ◌≤◌, ℕ, suc, ◌+◌, ◌^◌, Bool, true, false, not, ◌&&◌, ◌||◌, nat_eq, List, [], ◌∷◌, ◌++◌, map, filter, length, get_or, slice_get, Option, Some, None, is_some, string_bytes, IsTrue, if◌then◌else◌}
 use Rattle.std.specs.List.{AllByRecursion, Contains, position_from}
 use Rattle.std.proofs.Common.{refl, sym, ap, ◌∙◌, subst, arith, inl, inr, true≢false, Global, String}
 use Rattle.std.proofs.lemmas.List.{length-append, length-map}

@@ -11,7 +11,7 @@ use Rattle.serde_json.specs.View.{view, members_view}
 use Rattle.serde_json.specs.declared.value.Value.{Value}
 use Rattle.serde_json.proofs.Views.{Entry, view_of_ref, view-lookup, members_len-members_view}
 use Rattle.tree_core.specs.Limits.{objects_in, objects_in_members, has_long_part, has_long_member, is_long_text, is_too_large}
-use Rattle.mangle_tool.specs.Input.{is_envelope, wrapped_in, wrapped_program}
+use Rattle.mangle_tool.specs.Input.{is_envelope, wrapped_program}
 
 no_some : (d : Data) → None ≡ Some d → ⊥
 no_some d h = cc

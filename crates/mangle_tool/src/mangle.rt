@@ -24,7 +24,12 @@ pub fn mangle_program(alloc: Global, program: Program) -> Result<Program, Mangle
     ensures cause { IfErr result (λ e. IsProgramCause e program) }
 {
     let given = names_for(alloc, &program)?;
-    let mangled = rename(alloc, program, given.choices.as_slice(), given.names.as_slice())?;
+    let mangled = rename(
+        alloc,
+        program,
+        given.choices.as_slice(),
+        given.names.as_slice(),
+    )?;
     Ok(mangled)
 }
 

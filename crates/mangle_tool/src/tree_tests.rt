@@ -68,7 +68,11 @@ fn fields_may_be_left_out_or_not(rt: HostRuntime) -> Result<(), Fail> {
     ] {
         let rest = SAMPLE.replacen(rt.alloc(), field, "", 1)?;
         let answer = mangle_estree(rt.alloc(), rest.as_bytes());
-        let error = if is_tree { None } else { Some(MangleError::BadTree) };
+        let error = if is_tree {
+            None
+        } else {
+            Some(MangleError::BadTree)
+        };
         assert_eq!(rt; answer.err(), error, "without {field}");
     }
     let rest = SAMPLE.replacen(rt.alloc(), "\"value\":1,", "", 1)?;
@@ -79,10 +83,7 @@ fn fields_may_be_left_out_or_not(rt: HostRuntime) -> Result<(), Fail> {
 
 #[test]
 fn nesting_has_a_limit(rt: HostRuntime) -> Result<(), Fail> {
-    for (levels, error) in [
-        (127, MangleError::BadTree),
-        (128, MangleError::NotJson),
-    ] {
+    for (levels, error) in [(127, MangleError::BadTree), (128, MangleError::NotJson)] {
         let mut input = "[".repeat(rt.alloc(), levels)?;
         input.push_str("]".repeat(rt.alloc(), levels)?.as_str())?;
         let answer = mangle_estree(rt.alloc(), input.as_bytes());
@@ -98,15 +99,23 @@ fn statement(alloc: Global, word: &str) -> Result<String, AllocError> {
         return Ok(String::new(alloc));
     };
     if form == "read" {
-        return format!(in alloc; "{{\"type\":\"ExpressionStatement\",\"expression\":{{\"type\":\"Identifier\",\"name\":\"{name}\"}}}}");
+        return format!(in alloc;
+            "{{\"type\":\"ExpressionStatement\",\"expression\":{{\"type\":\"Identifier\",\"name\":\"{name}\"}}}}"
+        );
     }
     if form == "call" {
-        return format!(in alloc; "{{\"type\":\"ExpressionStatement\",\"expression\":{{\"type\":\"CallExpression\",\"callee\":{{\"type\":\"Identifier\",\"name\":\"{name}\"}},\"arguments\":[]}}}}");
+        return format!(in alloc;
+            "{{\"type\":\"ExpressionStatement\",\"expression\":{{\"type\":\"CallExpression\",\"callee\":{{\"type\":\"Identifier\",\"name\":\"{name}\"}},\"arguments\":[]}}}}"
+        );
     }
     let Some((declared, read)) = name.split_once('=') else {
-        return format!(in alloc; "{{\"type\":\"VariableDeclaration\",\"kind\":\"{form}\",\"declarations\":[{{\"type\":\"VariableDeclarator\",\"id\":{{\"type\":\"Identifier\",\"name\":\"{name}\"}}}}]}}");
+        return format!(in alloc;
+            "{{\"type\":\"VariableDeclaration\",\"kind\":\"{form}\",\"declarations\":[{{\"type\":\"VariableDeclarator\",\"id\":{{\"type\":\"Identifier\",\"name\":\"{name}\"}}}}]}}"
+        );
     };
-    format!(in alloc; "{{\"type\":\"VariableDeclaration\",\"kind\":\"{form}\",\"declarations\":[{{\"type\":\"VariableDeclarator\",\"id\":{{\"type\":\"Identifier\",\"name\":\"{declared}\"}},\"init\":{{\"type\":\"Identifier\",\"name\":\"{read}\"}}}}]}}")
+    format!(in alloc;
+        "{{\"type\":\"VariableDeclaration\",\"kind\":\"{form}\",\"declarations\":[{{\"type\":\"VariableDeclarator\",\"id\":{{\"type\":\"Identifier\",\"name\":\"{declared}\"}},\"init\":{{\"type\":\"Identifier\",\"name\":\"{read}\"}}}}]}}"
+    )
 }
 
 /// The program of these words.
@@ -171,7 +180,11 @@ fn trees_with_faults_and_others_are_refused(rt: HostRuntime) -> Result<(), Fail>
         let mut sink = MemorySink::with_room(rt.alloc(), 1000, 1000, &[])?;
         let ended = run(rt.alloc(), &mut source, &mut sink);
         assert_eq!(rt; ended, status, "of {words}");
-        assert_eq!(rt; sink.bytes().is_empty(), status != Status::Done, "of {words}");
+        assert_eq!(rt;
+            sink.bytes().is_empty(),
+            status != Status::Done,
+            "of {words}"
+        );
     }
     Ok(())
 }

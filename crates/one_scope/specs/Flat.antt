@@ -1,5 +1,5 @@
 -- Faults, bindings and new names in a tree whose only scope is the Program. There a name stands for its binding, and each binding that isn't kept has a slot of its own.
-use Rattle.std.specs.Prelude.{ℕ, ◌+◌, Bool, true, false, not, ◌&&◌, ◌||◌, List, [], ◌∷◌, map, length, Option, Some, None, get_or, filter, if◌then◌else◌}
+use Rattle.std.specs.Prelude.{ℕ, ◌+◌, Bool, false, not, ◌&&◌, ◌||◌, List, [], ◌∷◌, map, length, Option, Some, None, get_or, filter, if◌then◌else◌}
 use Rattle.std.specs.List.{list_any, position_from}
 use Rattle.one_scope.specs.Entries.{Entry}
 use Rattle.oxc_mangler.specs.FreeNames.{first_untaken}

@@ -1,5 +1,5 @@
 -- Trees whose only scope is the Program: modules and scripts of declarations of plain names, calls, names and literals.
-use Rattle.std.specs.Prelude.{◌≡◌, ℕ, Bool, true, false, ◌&&◌, List, [], ◌∷◌}
+use Rattle.std.specs.Prelude.{◌≡◌, Bool, true, false, ◌&&◌, List, [], ◌∷◌}
 use Rattle.std.specs.List.{AllByRecursion}
 use Rattle.tree_nodes.specs.Kinds.{is_in}
 use Rattle.tree_nodes.specs.Tree.{Parts, atom, child, done, many}

@@ -1,5 +1,5 @@
 -- A run that looks like one which fits the node table fits it too, if its names are identifier names.
-use Rattle.std.proofs.Common.{◌≡◌, ℕ, ◌<◌, ◌^◌, Bool, true, List, [], ◌∷◌, sym, ap, subst, ◌∙◌}
+use Rattle.std.proofs.Common.{◌≡◌, ℕ, ◌<◌, ◌^◌, Bool, List, [], ◌∷◌, sym, ap, subst, ◌∙◌}
 use Rattle.tree_core.proofs.Fits.{FitFields, FitItems, Fits, FitsAtom, FitsHead, FitsNext}
 use Rattle.tree_core.specs.Values.{is_null_atom}
 use Rattle.tree_nodes.specs.Table.{Column, row}

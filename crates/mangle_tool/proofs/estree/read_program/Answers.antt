@@ -1,4 +1,4 @@
-use Rattle.std.proofs.Common.{◌≡◌, true≢false, option_map, sym, ap, ◌∙◌}
+use Rattle.std.proofs.Common.{true≢false, option_map, sym, ap, ◌∙◌}
 use Rattle.serde_json.specs.View.{view}
 use Rattle.mangle_tool.proofs.Wrapped.{wrapped-within}
 use Rattle.mangle_tool.proofs.estree.read_program.Goals as goal

@@ -1,4 +1,4 @@
-use Rattle.std.proofs.Common.{◌≡◌, None, if◌then◌else◌, codes, sym, ap, ◌∙◌}
+use Rattle.std.proofs.Common.{None, if◌then◌else◌, codes, sym, ap, ◌∙◌}
 use Rattle.serde_json.specs.Find.{get_member}
 use Rattle.serde_json.specs.View.{members_view}
 use Rattle.mangle_tool.proofs.Wrapped.{member_found}

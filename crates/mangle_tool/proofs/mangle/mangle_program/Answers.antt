@@ -1,6 +1,4 @@
-use Rattle.std.proofs.Common.{◌≡◌, map, string_bytes, sym, ap, ap₂, subst, ◌∙◌, IsTrue}
-use Rattle.std.specs.List.{AllByRecursion}
-use Rattle.syntax_lex.specs.Identifier.{is_identifier_name}
+use Rattle.std.proofs.Common.{map, string_bytes, ap, ap₂, ◌∙◌}
 use Rattle.tree_nodes.specs.Tree.{alone}
 use Rattle.tree_places.specs.Places.{names}
 use Rattle.tree_rename.specs.Chosen.{chosen}

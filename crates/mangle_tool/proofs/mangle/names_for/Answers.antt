@@ -1,4 +1,4 @@
-use Rattle.std.proofs.Common.{◌≡◌, map, sym, ap, ap₂, ◌∙◌}
+use Rattle.std.proofs.Common.{map, sym, ap, ap₂, ◌∙◌}
 use Rattle.one_scope.specs.Entries.{entries as entries_of}
 use Rattle.one_scope.specs.EntryViews.{entry_view}
 use Rattle.one_scope.specs.Flat.{flat_slot_names, flat_slots, has_flat_fault}
