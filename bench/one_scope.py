@@ -12,8 +12,8 @@ import time
 PROGRAM = pathlib.Path(__file__).resolve().parent.parent / "crates/mangle/out/mangle"
 
 
-def node(kind, **fields):
-    return {"type": kind, "start": 0, "end": 0, **fields}
+def node(node_type, /, **fields):
+    return {"type": node_type, "start": 0, "end": 0, **fields}
 
 
 def name(number):

@@ -1,5 +1,5 @@
 //! The tree of a JavaScript program, in ESTree: the reader and the printer, which go by the node table of
-//! `tree_nodes`. The nodes and the table are named here too.
+//! `tree_nodes`. The nodes, the table and the names that patterns bind are named here too.
 #![tactic(auto)]
 
 mod laws;
@@ -16,6 +16,7 @@ pub use tree_nodes::{
     Class, Column, Declared, Field, FieldList, Group, KINDS, Kind, Mark, Mode, Node, NodeList,
     Opens, Role, Row, Strict, TreeText, Words, row, row_named, word_list,
 };
+pub use tree_patterns::{NodeRefs, bound_names};
 
 #[cfg(test)]
 mod tests;
