@@ -121,11 +121,11 @@ fn statement(alloc: Global, word: &str) -> Result<String, AllocError> {
 /// The program of these words.
 fn program(alloc: Global, source_type: &str, words: &str) -> Result<String, AllocError> {
     let mut text = String::from_str(alloc, "{\"type\":\"Program\",\"body\":[")?;
-    let mut comma = "";
-    for word in words.split(' ') {
-        text.push_str(comma)?;
+    for (i, word) in words.split(' ').enumerate() {
+        if i > 0 {
+            text.push(',')?;
+        }
         text.push_str(statement(alloc, word)?.as_str())?;
-        comma = ",";
     }
     text.push_str("],\"sourceType\":\"")?;
     text.push_str(source_type)?;
