@@ -1,12 +1,12 @@
 #!/usr/bin/env python3
 """Prints how long the scan by eight bytes takes as a ratio to a plain loop over the same bytes.
 
-Needs the built program: run `rt run` in crates/scan_bench once. Best of five runs each."""
+Needs the built program: run `rt run` in crates/bench_scan once. Best of five runs each."""
 import pathlib
 import subprocess
 import time
 
-PROGRAM = pathlib.Path(__file__).resolve().parent.parent / "crates/scan_bench/out/scan_bench"
+PROGRAM = pathlib.Path(__file__).resolve().parent.parent / "crates/bench_scan/out/bench_scan"
 
 
 def seconds(word):

@@ -2,7 +2,7 @@
 """Prints time and peak memory of reading and printing a tree of some 10 MB, as ratios to `serde_json` reading and
 writing the same bytes in the same run.
 
-Needs the built program: run `rt run` in crates/tree_bench once. Best of five runs each."""
+Needs the built program: run `rt run` in crates/bench_tree once. Best of five runs each."""
 import json
 import os
 import pathlib
@@ -10,7 +10,7 @@ import subprocess
 import sys
 import time
 
-PROGRAM = pathlib.Path(__file__).resolve().parent.parent / "crates/tree_bench/out/tree_bench"
+PROGRAM = pathlib.Path(__file__).resolve().parent.parent / "crates/bench_tree/out/bench_tree"
 FUNCTIONS = 6000
 
 

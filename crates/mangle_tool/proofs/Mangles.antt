@@ -11,15 +11,15 @@ use Rattle.one_scope.specs.Entries.{Entry, entries, entry_of}
 use Rattle.one_scope.specs.Flat.{flat_free_names, flat_name, flat_new_names, flat_slot, flat_slot_names, flat_slots, flat_weight, has_flat_fault, slot_owners}
 use Rattle.one_scope.specs.OneScope.{IsFlat, IsFlatTree, is_flat_role, is_one_scope}
 use Rattle.one_scope.specs.Open.{all_open}
-use Rattle.oxc_mangler.proofs.Bounds.{names_are_bounded}
-use Rattle.oxc_mangler.proofs.Identifiers.{short_names_are_identifiers}
-use Rattle.oxc_mangler.proofs.Fewest.{count-length}
-use Rattle.oxc_mangler.proofs.Mangling as mangling
-use Rattle.oxc_mangler.specs.GivenNames.{count_from, is_before, names_of_slots, slot_name}
-use Rattle.oxc_mangler.specs.MangledLaws.{HasNewNames}
-use Rattle.oxc_mangler.specs.Options.{Options, renames_root}
-use Rattle.oxc_mangler.specs.PrivateNumbers.{new_names}
-use Rattle.oxc_mangler.specs.ShortNames.{candidate}
+use Rattle.name_rules.proofs.Bounds.{names_are_bounded}
+use Rattle.name_rules.proofs.Identifiers.{short_names_are_identifiers}
+use Rattle.name_rules.proofs.Fewest.{count-length}
+use Rattle.name_rules.proofs.Mangling as mangling
+use Rattle.name_rules.specs.GivenNames.{count_from, is_before, names_of_slots, slot_name}
+use Rattle.name_rules.specs.MangledLaws.{HasNewNames}
+use Rattle.name_rules.specs.Options.{Options, renames_root}
+use Rattle.name_rules.specs.PrivateNumbers.{new_names}
+use Rattle.name_rules.specs.ShortNames.{candidate}
 use Rattle.syntax_lex.specs.Identifier.{is_identifier_name}
 use Rattle.mangle_tool.specs.Mangling.{IsMangling, IsSound, usual_options}
 use Rattle.tree_core.proofs.ReadsBack.{shape_read}
@@ -36,9 +36,9 @@ use Rattle.tree_places.specs.Renaming.{IsRenamed, is_plain}
 use Rattle.tree_rename.specs.Chosen.{chosen, given_name, or_own, spare_plain}
 use Rattle.tree_nodes.specs.declared.table.Role.{Role}
 use Rattle.tree_nodes.specs.declared.table.Role.TheVariants.{MemberKey, Plain}
-use Rattle.tree_semantic.proofs.Lists.{In, contains_from_in}
-use Rattle.tree_semantic.specs.Bindings.{same_name}
-use Rattle.tree_semantic.specs.Faults.{has_fault}
+use Rattle.scope_rules.proofs.Lists.{In, contains_from_in}
+use Rattle.scope_rules.specs.Bindings.{same_name}
+use Rattle.scope_rules.specs.Faults.{has_fault}
 
 -- a position lies in the list
 position_within : {X : Type 0} (test : X → Bool) (i : ℕ) (xs : List X) (k : ℕ) → position_from test i xs ≡ Some k → k < i + length xs

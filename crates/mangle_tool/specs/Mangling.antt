@@ -1,17 +1,17 @@
 -- What a run does to the program that it read.
 use Rattle.std.specs.Prelude.{◌≡◌, false, [], None, Option, Some, option_and_then, if◌then◌else◌, IsFalse, IsTrue}
 use Rattle.one_scope.specs.OneScope.{is_one_scope}
-use Rattle.oxc_mangler.specs.Mangled.{IsMangled}
-use Rattle.oxc_mangler.specs.Options.{Options, renames_root}
-use Rattle.oxc_mangler.specs.PrivateNumbers.{new_names}
+use Rattle.name_rules.specs.Mangled.{IsMangled}
+use Rattle.name_rules.specs.Options.{Options, renames_root}
+use Rattle.name_rules.specs.PrivateNumbers.{new_names}
 use Rattle.serde_json.specs.Data.{Data}
 use Rattle.tree_core.specs.JsonOf.{json_of}
 use Rattle.tree_core.specs.Program.{IsProgram}
 use Rattle.tree_core.specs.Reading.{tree_of}
 use Rattle.tree_nodes.specs.Tree.{Tree, alone}
 use Rattle.tree_places.specs.Places.{names, places}
-use Rattle.tree_semantic.specs.Bindings.{same_name}
-use Rattle.tree_semantic.specs.Faults.{has_fault}
+use Rattle.scope_rules.specs.Bindings.{same_name}
+use Rattle.scope_rules.specs.Faults.{has_fault}
 use Rattle.mangle_tool.specs.Input.{program_in}
 
 -- the tree that a value is or wraps, if all its nodes are of kinds that are mangled

@@ -11,8 +11,8 @@ use Rattle.one_scope.specs.Flat.{has_flat_fault, redeclares_flat}
 use Rattle.one_scope.specs.Open.{all_open}
 use Rattle.one_scope.specs.Steps.{first_is_var, may_join}
 use Rattle.tree_nodes.specs.Tree.{Text}
-use Rattle.tree_semantic.specs.Bindings.{or_else, same_name}
-use Rattle.tree_semantic.specs.Homes.{is_declaring, is_var}
+use Rattle.scope_rules.specs.Bindings.{or_else, same_name}
+use Rattle.scope_rules.specs.Homes.{is_declaring, is_var}
 
 -- ---- the first place that declares a name, with one place more
 

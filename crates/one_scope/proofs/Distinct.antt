@@ -8,8 +8,8 @@ use Rattle.one_scope.specs.Flat.{flat_slot}
 use Rattle.one_scope.specs.Open.{all_open}
 use Rattle.tree_nodes.specs.Tree.{Text}
 use Rattle.tree_places.proofs.Runs.{AllOf, PairsOf}
-use Rattle.tree_semantic.specs.Bindings.{or_else}
-use Rattle.tree_semantic.specs.PrivateNames.{distinct, distinct_after, is_among}
+use Rattle.scope_rules.specs.Bindings.{or_else}
+use Rattle.scope_rules.specs.PrivateNames.{distinct, distinct_after, is_among}
 
 -- ---- which names are among them
 

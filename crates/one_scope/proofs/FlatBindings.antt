@@ -8,9 +8,9 @@ use Rattle.one_scope.specs.Open.{all_open}
 use Rattle.tree_nodes.specs.Tree.{Text}
 use Rattle.tree_places.specs.Places.{Place}
 use Rattle.tree_places.specs.Scopes.{Scope, first_outwards, same_scope}
-use Rattle.tree_semantic.proofs.Lists.{In}
-use Rattle.tree_semantic.specs.Bindings.{binder, binding, declares_at, names_function_at, node, node_of, or_else, plain_binder, same_name, shadower}
-use Rattle.tree_semantic.specs.Homes.{declares, declares_plainly, home, is_declaring, names_function, refers}
+use Rattle.scope_rules.proofs.Lists.{In}
+use Rattle.scope_rules.specs.Bindings.{binder, binding, declares_at, names_function_at, node, node_of, or_else, plain_binder, same_name, shadower}
+use Rattle.scope_rules.specs.Homes.{declares, declares_plainly, home, is_declaring, names_function, refers}
 
 -- it declares this name
 unfoldable pub declares_as : Text → Place → Bool

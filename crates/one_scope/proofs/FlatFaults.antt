@@ -9,10 +9,10 @@ use Rattle.one_scope.specs.OneScope.{IsFlat}
 use Rattle.one_scope.specs.Open.{all_open}
 use Rattle.tree_places.specs.Places.{Place}
 use Rattle.tree_places.specs.Scopes.{Scope, any_below, same_scope}
-use Rattle.tree_semantic.proofs.Lists.{In, any-map, any-same}
-use Rattle.tree_semantic.specs.Bindings.{binding, bound, same_name}
-use Rattle.tree_semantic.specs.Faults.{crosses, has_crossing, has_fault, has_reach, has_redeclaration, has_sloppy_function, has_undeclared, is_of_body, is_single_at, is_sloppy_function, is_undeclared, reaches_body, redeclares}
-use Rattle.tree_semantic.specs.Homes.{declares, declares_plainly, home, is_declaring, is_joinable, is_var, lies_in_var_scope, refers}
+use Rattle.scope_rules.proofs.Lists.{In, any-map, any-same}
+use Rattle.scope_rules.specs.Bindings.{binding, bound, same_name}
+use Rattle.scope_rules.specs.Faults.{crosses, has_crossing, has_fault, has_reach, has_redeclaration, has_sloppy_function, has_undeclared, is_of_body, is_single_at, is_sloppy_function, is_undeclared, reaches_body, redeclares}
+use Rattle.scope_rules.specs.Homes.{declares, declares_plainly, home, is_declaring, is_joinable, is_var, lies_in_var_scope, refers}
 
 redeclares_is : (p q : Place) → IsFlat p.site → IsFlat q.site → redeclares same_name p q ≡ redeclares_flat (entry_of p) (entry_of q)
 unfolding all_open

@@ -10,19 +10,19 @@ use Rattle.one_scope.specs.Entries.{entry_of}
 use Rattle.one_scope.specs.Flat.{is_flat_eval, keeps_all}
 use Rattle.one_scope.specs.OneScope.{IsFlat}
 use Rattle.one_scope.specs.Open.{all_open}
-use Rattle.oxc_mangler.proofs.Given.{from-filter, from-map, in-filter, in-map, tells}
-use Rattle.oxc_mangler.specs.Groups.{Member, group_at, group_of, members_of}
-use Rattle.oxc_mangler.specs.Kept.{gets_value, has_number, is_assigned, is_declared_with, is_exported, is_kept_alone, is_of_root, is_place_of, is_reserved, is_root, kept_alone, name_kept, role_kept, value_kept}
-use Rattle.oxc_mangler.specs.Options.{Options}
+use Rattle.name_rules.proofs.Given.{from-filter, from-map, in-filter, in-map, tells}
+use Rattle.name_rules.specs.Groups.{Member, group_at, group_of, members_of}
+use Rattle.name_rules.specs.Kept.{gets_value, has_number, is_assigned, is_declared_with, is_exported, is_kept_alone, is_of_root, is_place_of, is_reserved, is_root, kept_alone, name_kept, role_kept, value_kept}
+use Rattle.name_rules.specs.Options.{Options}
 use Rattle.tree_nodes.specs.Tree.{Text}
 use Rattle.tree_places.specs.Laws.{RiseFrom}
 use Rattle.tree_places.specs.Places.{Place}
 use Rattle.tree_places.specs.Scopes.{Scope, is_inside}
-use Rattle.tree_semantic.proofs.Lists.{In, any-from, any-map, any-same, any-some, find-first, map-map, map-same, told}
-use Rattle.tree_semantic.proofs.Stay.{one_place}
-use Rattle.tree_semantic.specs.Bindings.{Bound, binding, is_binding, is_node, node, node_of, same_name, shadower}
-use Rattle.tree_semantic.specs.Evals.{holds_eval, is_eval}
-use Rattle.tree_semantic.specs.Homes.{declares, home, is_declaring, refers}
+use Rattle.scope_rules.proofs.Lists.{In, any-from, any-map, any-same, any-some, find-first, map-map, map-same, told}
+use Rattle.scope_rules.proofs.Stay.{one_place}
+use Rattle.scope_rules.specs.Bindings.{Bound, binding, is_binding, is_node, node, node_of, same_name, shadower}
+use Rattle.scope_rules.specs.Evals.{holds_eval, is_eval}
+use Rattle.scope_rules.specs.Homes.{declares, home, is_declaring, refers}
 
 -- the name is kept
 unfoldable pub keeps : Options → List Place → Text → Bool

@@ -13,28 +13,28 @@ use Rattle.one_scope.specs.Entries.{Entry, entry_of}
 use Rattle.one_scope.specs.Flat.{flat_free_names, flat_name, flat_new_names, flat_slot, flat_slot_names, flat_weight, is_taken_flat, slot_owners}
 use Rattle.one_scope.specs.OneScope.{IsFlat}
 use Rattle.one_scope.specs.Open.{all_open}
-use Rattle.oxc_mangler.proofs.Given.{from-filter, in-map, in-right, tells}
-use Rattle.oxc_mangler.proofs.Runs.{of-each}
-use Rattle.oxc_mangler.proofs.SlotNamed.{filter-apart, map-apart}
-use Rattle.oxc_mangler.specs.FreeNames.{first_untaken, is_taken, is_unchanged}
-use Rattle.oxc_mangler.specs.GivenNames.{count_from, free_names, new_name, slot_names}
-use Rattle.oxc_mangler.specs.Groups.{Member}
-use Rattle.oxc_mangler.specs.Kept.{is_reserved}
-use Rattle.oxc_mangler.specs.Options.{Options}
-use Rattle.oxc_mangler.specs.PrivateNumbers.{new_private_name, with_private}
-use Rattle.oxc_mangler.specs.ShortNames.{candidate}
-use Rattle.oxc_mangler.specs.Slots.{Slotted, number_of_slots, slot_of, weight}
+use Rattle.name_rules.proofs.Given.{from-filter, in-map, in-right, tells}
+use Rattle.name_rules.proofs.Runs.{of-each}
+use Rattle.name_rules.proofs.SlotNamed.{filter-apart, map-apart}
+use Rattle.name_rules.specs.FreeNames.{first_untaken, is_taken, is_unchanged}
+use Rattle.name_rules.specs.GivenNames.{count_from, free_names, new_name, slot_names}
+use Rattle.name_rules.specs.Groups.{Member}
+use Rattle.name_rules.specs.Kept.{is_reserved}
+use Rattle.name_rules.specs.Options.{Options}
+use Rattle.name_rules.specs.PrivateNumbers.{new_private_name, with_private}
+use Rattle.name_rules.specs.ShortNames.{candidate}
+use Rattle.name_rules.specs.Slots.{Slotted, number_of_slots, slot_of, weight}
 use Rattle.syntax_lex.specs.Keyword.{is_reserved_keyword}
 use Rattle.tree_nodes.specs.Tree.{Text}
 use Rattle.tree_places.proofs.Runs.{AllOf, PairsOf}
 use Rattle.tree_places.specs.Laws.{RiseFrom}
 use Rattle.tree_places.specs.Places.{Place}
-use Rattle.tree_semantic.proofs.Lists.{In, any-map, any-same, map-map, map-same, tested}
-use Rattle.tree_semantic.proofs.Stay.{above, one_place}
-use Rattle.tree_semantic.specs.Bindings.{is_node, node, same_name}
-use Rattle.tree_semantic.specs.Evals.{name_eval}
-use Rattle.tree_semantic.specs.Homes.{declares, is_reference, refers}
-use Rattle.tree_semantic.specs.PrivateNames.{is_among}
+use Rattle.scope_rules.proofs.Lists.{In, any-map, any-same, map-map, map-same, tested}
+use Rattle.scope_rules.proofs.Stay.{above, one_place}
+use Rattle.scope_rules.specs.Bindings.{is_node, node, same_name}
+use Rattle.scope_rules.specs.Evals.{name_eval}
+use Rattle.scope_rules.specs.Homes.{declares, is_reference, refers}
+use Rattle.scope_rules.specs.PrivateNames.{is_among}
 
 -- ---- free names
 

@@ -13,18 +13,18 @@ use Rattle.one_scope.specs.Entries.{Entry, entry_of}
 use Rattle.one_scope.specs.Flat.{declared_names, keeps_all, slot_owners}
 use Rattle.one_scope.specs.OneScope.{IsFlat}
 use Rattle.one_scope.specs.Open.{all_open}
-use Rattle.oxc_mangler.proofs.Given.{from-filter, in-filter, in-right, tells}
-use Rattle.oxc_mangler.specs.Groups.{leads}
-use Rattle.oxc_mangler.specs.Kept.{is_reserved}
-use Rattle.oxc_mangler.specs.Options.{Options}
+use Rattle.name_rules.proofs.Given.{from-filter, in-filter, in-right, tells}
+use Rattle.name_rules.specs.Groups.{leads}
+use Rattle.name_rules.specs.Kept.{is_reserved}
+use Rattle.name_rules.specs.Options.{Options}
 use Rattle.tree_nodes.specs.Tree.{Text}
 use Rattle.tree_places.specs.Laws.{RiseFrom}
 use Rattle.tree_places.specs.Places.{Place}
-use Rattle.tree_semantic.proofs.Lists.{First, In, any-from, any-map, any-some, find-first, tested, told}
-use Rattle.tree_semantic.proofs.Stay.{above, one_place}
-use Rattle.tree_semantic.specs.Bindings.{is_node, node, node_of, same_name}
-use Rattle.tree_semantic.specs.Homes.{declares, is_declaring}
-use Rattle.tree_semantic.specs.PrivateNames.{distinct_after, is_among}
+use Rattle.scope_rules.proofs.Lists.{First, In, any-from, any-map, any-some, find-first, tested, told}
+use Rattle.scope_rules.proofs.Stay.{above, one_place}
+use Rattle.scope_rules.specs.Bindings.{is_node, node, node_of, same_name}
+use Rattle.scope_rules.specs.Homes.{declares, is_declaring}
+use Rattle.scope_rules.specs.PrivateNames.{distinct_after, is_among}
 
 pub name_told : (x y : Text) → same_name x y ≡ true → x ≡ y
 name_told x y = (tells x y).0

@@ -5,16 +5,16 @@ use Rattle.std.proofs.Common.{refl, ap, ◌∙◌}
 use Rattle.std.proofs.lemmas.Bool.{both_ways}
 use Rattle.one_scope.specs.OneScope.{IsFlat, is_flat_declared, is_flat_role, is_flat_value}
 use Rattle.one_scope.specs.Open.{all_open}
-use Rattle.oxc_mangler.specs.Kept.{role_kept, value_kept}
-use Rattle.oxc_mangler.specs.Options.{Options}
+use Rattle.name_rules.specs.Kept.{role_kept, value_kept}
+use Rattle.name_rules.specs.Options.{Options}
 use Rattle.tree_nodes.specs.declared.table.Declared.{Declared}
 use Rattle.tree_nodes.specs.declared.table.Declared.TheVariants.{Class, ClassName, Const, Function, FunctionName, Let, Var}
 use Rattle.tree_nodes.specs.declared.table.Role.{Role}
 use Rattle.tree_nodes.specs.declared.table.Role.TheVariants.{Called, Declares, Read}
 use Rattle.tree_places.specs.Places.{Site, Value, no_value, other_value}
-use Rattle.tree_semantic.proofs.Lists.{In, any-same}
-use Rattle.tree_semantic.specs.Faults.{is_plain_function}
-use Rattle.tree_semantic.specs.Homes.{declares, declares_plainly, home, is_declaring, is_function_name, is_joinable, is_reference, is_var, joins, lies_in_var_scope, names_function, refers}
+use Rattle.scope_rules.proofs.Lists.{In, any-same}
+use Rattle.scope_rules.specs.Faults.{is_plain_function}
+use Rattle.scope_rules.specs.Homes.{declares, declares_plainly, home, is_declaring, is_function_name, is_joinable, is_reference, is_var, joins, lies_in_var_scope, names_function, refers}
 
 -- ---- of Bool, and of tests that nothing passes
 

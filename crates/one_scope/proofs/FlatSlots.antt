@@ -10,18 +10,18 @@ use Rattle.one_scope.proofs.FlatOwners.{leaders, leads_at}
 use Rattle.one_scope.proofs.FlatSites.{homed}
 use Rattle.one_scope.specs.OneScope.{IsFlat}
 use Rattle.one_scope.specs.Open.{all_open}
-use Rattle.oxc_mangler.proofs.Given.{from-filter, from-map}
-use Rattle.oxc_mangler.specs.GivenNames.{count_from}
-use Rattle.oxc_mangler.specs.Groups.{Group, Member, greatest, group_led_by, groups, leads}
-use Rattle.oxc_mangler.specs.Options.{Options}
-use Rattle.oxc_mangler.specs.Slots.{Slotted, least_missing, number_of_slots, slot_after, slot_of, slots, slots_after, slots_live}
+use Rattle.name_rules.proofs.Given.{from-filter, from-map}
+use Rattle.name_rules.specs.GivenNames.{count_from}
+use Rattle.name_rules.specs.Groups.{Group, Member, greatest, group_led_by, groups, leads}
+use Rattle.name_rules.specs.Options.{Options}
+use Rattle.name_rules.specs.Slots.{Slotted, least_missing, number_of_slots, slot_after, slot_of, slots, slots_after, slots_live}
 use Rattle.tree_nodes.specs.Tree.{Text}
 use Rattle.tree_places.proofs.Outwards.{same-refl}
 use Rattle.tree_places.specs.Places.{Place}
 use Rattle.tree_places.specs.Scopes.{same_scope}
-use Rattle.tree_semantic.proofs.Lists.{In, map-map, map-same}
-use Rattle.tree_semantic.specs.Bindings.{is_node, node, same_name}
-use Rattle.tree_semantic.specs.Homes.{home}
+use Rattle.scope_rules.proofs.Lists.{In, map-map, map-same}
+use Rattle.scope_rules.specs.Bindings.{is_node, node, same_name}
+use Rattle.scope_rules.specs.Homes.{home}
 
 -- the group that a place leads in the one scope, and groups with the slots from k on
 unfoldable pub root_group : Place → Group

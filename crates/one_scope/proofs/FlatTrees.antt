@@ -11,16 +11,16 @@ use Rattle.one_scope.specs.Flat.{flat_name, flat_slot_names, slot_owners}
 use Rattle.one_scope.specs.Laws.{FlatFaults, FlatNames, FlatSlotNames}
 use Rattle.one_scope.specs.OneScope.{IsFlat, IsFlatTree}
 use Rattle.one_scope.specs.Open.{all_open}
-use Rattle.oxc_mangler.proofs.Given.{named-site, places_rise}
-use Rattle.oxc_mangler.proofs.Runs.{of-each}
-use Rattle.oxc_mangler.specs.GivenNames.{given_names, names_of_slots, new_name}
-use Rattle.oxc_mangler.specs.Groups.{groups, members, members_of}
-use Rattle.oxc_mangler.specs.Options.{Options}
-use Rattle.oxc_mangler.specs.PrivateNumbers.{with_private}
-use Rattle.oxc_mangler.specs.Slots.{slots, slots_of}
+use Rattle.name_rules.proofs.Given.{named-site, places_rise}
+use Rattle.name_rules.proofs.Runs.{of-each}
+use Rattle.name_rules.specs.GivenNames.{given_names, names_of_slots, new_name}
+use Rattle.name_rules.specs.Groups.{groups, members, members_of}
+use Rattle.name_rules.specs.Options.{Options}
+use Rattle.name_rules.specs.PrivateNumbers.{with_private}
+use Rattle.name_rules.specs.Slots.{slots, slots_of}
 use Rattle.tree_nodes.specs.Tree.{Parts}
 use Rattle.tree_places.specs.Places.{Place, names, places, sites}
-use Rattle.tree_semantic.proofs.Lists.{In}
+use Rattle.scope_rules.proofs.Lists.{In}
 
 pub flat_places : (t : Parts) → IsFlatTree t → (p : Place) → In p (places t) → IsFlat p.site
 unfolding all_open

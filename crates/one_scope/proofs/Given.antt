@@ -10,18 +10,18 @@ use Rattle.one_scope.specs.Flat.{flat_free_names, flat_name, flat_new_names, fla
 use Rattle.one_scope.specs.Open.{all_open}
 use Rattle.one_scope.specs.Steps.{AreWithin, chosen_name, chosen_names}
 use Rattle.oxc_mangler.proofs.NextNames.{how_many, is_listed}
-use Rattle.oxc_mangler.proofs.Untaken.{candidate_one, enough}
+use Rattle.name_rules.proofs.Untaken.{candidate_one, enough}
 use Rattle.oxc_mangler.specs.FirstFree.{AreFirstFree}
-use Rattle.oxc_mangler.specs.FreeNames.{first_untaken}
-use Rattle.oxc_mangler.specs.GivenNames.{count_from, slot_names}
+use Rattle.name_rules.specs.FreeNames.{first_untaken}
+use Rattle.name_rules.specs.GivenNames.{count_from, slot_names}
 use Rattle.oxc_mangler.specs.Guard.{is_refused}
-use Rattle.oxc_mangler.specs.Kept.{name_arguments}
-use Rattle.oxc_mangler.specs.Options.{Options}
-use Rattle.oxc_mangler.specs.ShortNames.{candidate}
+use Rattle.name_rules.specs.Kept.{name_arguments}
+use Rattle.name_rules.specs.Options.{Options}
+use Rattle.name_rules.specs.ShortNames.{candidate}
 use Rattle.syntax_lex.specs.Keyword.{reserved_keywords}
 use Rattle.tree_nodes.specs.Tree.{Text}
-use Rattle.tree_semantic.specs.Bindings.{same_name}
-use Rattle.tree_semantic.specs.Evals.{name_eval}
+use Rattle.scope_rules.specs.Bindings.{same_name}
+use Rattle.scope_rules.specs.Evals.{name_eval}
 
 -- ---- the free names
 

@@ -7,12 +7,12 @@ use Rattle.one_scope.proofs.Distinct.{AllApart, among_distinct, among_filter, di
 use Rattle.one_scope.proofs.Texts.{put_none, seen_more}
 use Rattle.one_scope.specs.Entries.{Entry}
 use Rattle.one_scope.specs.Flat.{declared_names, flat_slot, keeps_all, slot_owners}
-use Rattle.oxc_mangler.specs.Kept.{is_reserved}
-use Rattle.oxc_mangler.specs.Options.{Options}
+use Rattle.name_rules.specs.Kept.{is_reserved}
+use Rattle.name_rules.specs.Options.{Options}
 use Rattle.tree_nodes.specs.Tree.{Text}
-use Rattle.tree_semantic.specs.Bindings.{or_else}
-use Rattle.tree_semantic.specs.Homes.{is_declaring}
-use Rattle.tree_semantic.specs.PrivateNames.{distinct, is_among}
+use Rattle.scope_rules.specs.Bindings.{or_else}
+use Rattle.scope_rules.specs.Homes.{is_declaring}
+use Rattle.scope_rules.specs.PrivateNames.{distinct, is_among}
 
 -- the names that declaring places declare
 unfoldable pub declared : List Entry → List Text

@@ -11,13 +11,13 @@ use Rattle.one_scope.specs.Flat.{flat_slot, is_taken_flat}
 use Rattle.one_scope.specs.Open.{all_open}
 use Rattle.one_scope.specs.Steps.{keeps_name}
 use Rattle.oxc_mangler.specs.Guard.{HasAlso, is_never_given, is_refused}
-use Rattle.oxc_mangler.specs.Kept.{name_arguments}
-use Rattle.oxc_mangler.specs.Options.{Options}
+use Rattle.name_rules.specs.Kept.{name_arguments}
+use Rattle.name_rules.specs.Options.{Options}
 use Rattle.syntax_lex.specs.Keyword.{is_reserved_keyword}
 use Rattle.tree_nodes.specs.Tree.{Text}
-use Rattle.tree_semantic.specs.Bindings.{same_name}
-use Rattle.tree_semantic.specs.Evals.{name_eval}
-use Rattle.tree_semantic.specs.PrivateNames.{is_among}
+use Rattle.scope_rules.specs.Bindings.{same_name}
+use Rattle.scope_rules.specs.Evals.{name_eval}
+use Rattle.scope_rules.specs.PrivateNames.{is_among}
 
 nothing_or : (b : Bool) → (b || false) ≡ b
 nothing_or true = refl

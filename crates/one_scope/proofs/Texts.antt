@@ -5,8 +5,8 @@ use Rattle.std.proofs.lemmas.Bool.{both_ways}
 use Rattle.std.proofs.lemmas.List.{map-append, take_more}
 use Rattle.std.proofs.lemmas.Slice.Eq.{bytes_eq-Decides}
 use Rattle.tree_nodes.specs.Tree.{Text}
-use Rattle.tree_semantic.proofs.Lists.{none_some}
-use Rattle.tree_semantic.specs.Bindings.{or_else}
+use Rattle.scope_rules.proofs.Lists.{none_some}
+use Rattle.scope_rules.specs.Bindings.{or_else}
 
 pub same_refl : (x : Text) → bytes_eq x x ≡ true
 same_refl x = (bytes_eq-Decides x x).1 refl

@@ -12,9 +12,9 @@ use Rattle.one_scope.specs.Open.{all_open}
 use Rattle.one_scope.specs.Steps.{one_more_at}
 use Rattle.tree_nodes.specs.Tree.{Text}
 use Rattle.tree_places.proofs.Runs.{AllOf}
-use Rattle.tree_semantic.proofs.Lists.{none_some, some_one}
-use Rattle.tree_semantic.specs.Bindings.{same_name}
-use Rattle.tree_semantic.specs.Homes.{is_reference}
+use Rattle.scope_rules.proofs.Lists.{none_some, some_one}
+use Rattle.scope_rules.specs.Bindings.{same_name}
+use Rattle.scope_rules.specs.Homes.{is_reference}
 
 -- ---- with one place more
 

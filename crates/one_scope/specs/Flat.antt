@@ -2,17 +2,17 @@
 use Rattle.std.specs.Prelude.{ℕ, ◌+◌, Bool, false, not, ◌&&◌, ◌||◌, List, [], ◌∷◌, map, length, Option, Some, None, get_or, filter, if◌then◌else◌}
 use Rattle.std.specs.List.{list_any, position_from}
 use Rattle.one_scope.specs.Entries.{Entry}
-use Rattle.oxc_mangler.specs.FreeNames.{first_untaken}
-use Rattle.oxc_mangler.specs.GivenNames.{slot_names}
-use Rattle.oxc_mangler.specs.Kept.{is_reserved}
-use Rattle.oxc_mangler.specs.Options.{Options}
-use Rattle.oxc_mangler.specs.ShortNames.{candidate}
+use Rattle.name_rules.specs.FreeNames.{first_untaken}
+use Rattle.name_rules.specs.GivenNames.{slot_names}
+use Rattle.name_rules.specs.Kept.{is_reserved}
+use Rattle.name_rules.specs.Options.{Options}
+use Rattle.name_rules.specs.ShortNames.{candidate}
 use Rattle.syntax_lex.specs.Keyword.{is_reserved_keyword}
 use Rattle.tree_nodes.specs.Tree.{Text}
-use Rattle.tree_semantic.specs.Bindings.{same_name}
-use Rattle.tree_semantic.specs.Evals.{is_called, name_eval}
-use Rattle.tree_semantic.specs.Homes.{is_declaring, is_reference, is_var}
-use Rattle.tree_semantic.specs.PrivateNames.{distinct, is_among}
+use Rattle.scope_rules.specs.Bindings.{same_name}
+use Rattle.scope_rules.specs.Evals.{is_called, name_eval}
+use Rattle.scope_rules.specs.Homes.{is_declaring, is_reference, is_var}
+use Rattle.scope_rules.specs.PrivateNames.{distinct, is_among}
 
 -- ---- faults: two places declare one name, and not both are `var`
 

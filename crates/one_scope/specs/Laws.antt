@@ -3,14 +3,14 @@ use Rattle.std.specs.Prelude.{◌≡◌, true, false}
 use Rattle.one_scope.specs.Entries.{entries}
 use Rattle.one_scope.specs.Flat.{flat_new_names, flat_slot_names, has_flat_fault}
 use Rattle.one_scope.specs.OneScope.{IsFlatTree, is_one_scope}
-use Rattle.oxc_mangler.specs.GivenNames.{names_of_slots}
-use Rattle.oxc_mangler.specs.Options.{Options}
-use Rattle.oxc_mangler.specs.PrivateNumbers.{new_names}
+use Rattle.name_rules.specs.GivenNames.{names_of_slots}
+use Rattle.name_rules.specs.Options.{Options}
+use Rattle.name_rules.specs.PrivateNumbers.{new_names}
 use Rattle.tree_nodes.specs.Standing.{is_placed}
 use Rattle.tree_nodes.specs.Tree.{Parts, Tree, alone}
 use Rattle.tree_places.specs.Places.{places}
-use Rattle.tree_semantic.specs.Bindings.{same_name}
-use Rattle.tree_semantic.specs.Faults.{has_fault, has_undeclared}
+use Rattle.scope_rules.specs.Bindings.{same_name}
+use Rattle.scope_rules.specs.Faults.{has_fault, has_undeclared}
 
 -- all places of such a tree lie in the one scope, if its nodes stand where they may
 abbrev pub OneScopeIsFlat : Type 0

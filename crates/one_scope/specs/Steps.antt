@@ -6,9 +6,9 @@ use Rattle.std.specs.List.{AllByRecursion}
 use Rattle.one_scope.specs.Entries.{Entry}
 use Rattle.one_scope.specs.Flat.{flat_slot}
 use Rattle.tree_nodes.specs.Tree.{Text}
-use Rattle.tree_semantic.specs.Bindings.{or_else, same_name}
-use Rattle.tree_semantic.specs.Homes.{is_declaring, is_var}
-use Rattle.tree_semantic.specs.PrivateNames.{is_among}
+use Rattle.scope_rules.specs.Bindings.{or_else, same_name}
+use Rattle.scope_rules.specs.Homes.{is_declaring, is_var}
+use Rattle.scope_rules.specs.PrivateNames.{is_among}
 
 -- what a map has at a name
 abbrev pub at_name : {X S : Type 0} → HashMap (Bor Text) X S → Text → Option X

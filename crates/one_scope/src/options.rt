@@ -3,9 +3,9 @@
 ghost use Rattle.std.specs.Prelude.{◌≡◌, ◌≤◌, ◌+◌, [], false, length, if◌then◌else◌, IfOk, OnErr};
 ghost use Rattle.one_scope.specs.Steps.{AreSameNames};
 ghost use Rattle.oxc_mangler.specs.Guard.{HasAlso};
-ghost use Rattle.oxc_mangler.specs.Kept.{is_reserved};
-ghost use Rattle.oxc_mangler.specs.Options.{Options};
-ghost use Rattle.tree_semantic.specs.PrivateNames.{is_among};
+ghost use Rattle.name_rules.specs.Kept.{is_reserved};
+ghost use Rattle.name_rules.specs.Options.{Options};
+ghost use Rattle.scope_rules.specs.PrivateNames.{is_among};
 
 use oxc_mangler::Guard;
 use std::alloc::{AllocError, Global};
@@ -25,7 +25,7 @@ pub struct MangleOptions {
 
 impl Model for MangleOptions {
     ghost use Rattle.std.specs.Prelude.{map, string_bytes};
-    ghost use Rattle.oxc_mangler.specs.Options.{Options};
+    ghost use Rattle.name_rules.specs.Options.{Options};
 
     ghost Value = { Options };
 

@@ -1,13 +1,13 @@
 //! What a place of a role does to names.
 
 ghost use Rattle.std.specs.Prelude.{◌≡◌};
-ghost use Rattle.tree_semantic.specs.Homes.{is_declaring, is_reference, is_var};
-ghost use Rattle.tree_semantic.specs.Evals.{is_called};
+ghost use Rattle.scope_rules.specs.Homes.{is_declaring, is_reference, is_var};
+ghost use Rattle.scope_rules.specs.Evals.{is_called};
 
 use tree_nodes::{Declared, Role};
 
 /// Whether it declares its name.
-#[tactic(auto, unfolding(tree_semantic::specs::Homes::is_declaring))]
+#[tactic(auto, unfolding(scope_rules::specs::Homes::is_declaring))]
 pub fn is_declaring(role: Role) -> bool
     ensures { result ≡ is_declaring role }
 {
@@ -15,7 +15,7 @@ pub fn is_declaring(role: Role) -> bool
 }
 
 /// Whether it declares its name by `var`.
-#[tactic(auto, unfolding(tree_semantic::specs::Homes::is_var))]
+#[tactic(auto, unfolding(scope_rules::specs::Homes::is_var))]
 pub fn is_var(role: Role) -> bool
     ensures { result ≡ is_var role }
 {
@@ -23,7 +23,7 @@ pub fn is_var(role: Role) -> bool
 }
 
 /// Whether it refers to its name.
-#[tactic(auto, unfolding(tree_semantic::specs::Homes::is_reference))]
+#[tactic(auto, unfolding(scope_rules::specs::Homes::is_reference))]
 pub fn is_reference(role: Role) -> bool
     ensures { result ≡ is_reference role }
 {
@@ -34,7 +34,7 @@ pub fn is_reference(role: Role) -> bool
 }
 
 /// Whether it is called directly.
-#[tactic(auto, unfolding(tree_semantic::specs::Evals::is_called))]
+#[tactic(auto, unfolding(scope_rules::specs::Evals::is_called))]
 pub fn is_called(role: Role) -> bool
     ensures { result ≡ is_called role }
 {

@@ -105,7 +105,7 @@ fn has_eval(entries: &[Entry<'_>]) -> bool
 }
 
 // Whether the place is the callee of a direct eval.
-#[tactic(auto, unfolding(crate::specs::Flat::is_flat_eval, tree_semantic::specs::Bindings::same_name))]
+#[tactic(auto, unfolding(crate::specs::Flat::is_flat_eval, scope_rules::specs::Bindings::same_name))]
 fn is_eval(entry: &Entry<'_>) -> bool
     ensures { result ≡ is_flat_eval (entry_view entry.now) }
 {

@@ -6,15 +6,15 @@ use Rattle.std.proofs.lemmas.Fmt.{PrependsLastDigit, decimal_from_prepends, leng
 use Rattle.std.proofs.lemmas.List.{append_assoc, append-nil, length-append}
 use Rattle.syntax_lex.specs.Keyword.{reserved_keywords}
 use Rattle.oxc_mangler.proofs.NextNames.{how_many, is_listed}
-use Rattle.oxc_mangler.proofs.Untaken.{candidate_one, enough}
+use Rattle.name_rules.proofs.Untaken.{candidate_one, enough}
 use Rattle.oxc_mangler.specs.FirstFree.{AreFirstFree, AreFreeWhereTaken}
-use Rattle.oxc_mangler.specs.FreeNames.{first_untaken, is_taken}
+use Rattle.name_rules.specs.FreeNames.{first_untaken, is_taken}
 use Rattle.oxc_mangler.specs.Guard.{is_refused}
-use Rattle.oxc_mangler.specs.Kept.{name_arguments}
-use Rattle.oxc_mangler.specs.Open.{all_open}
-use Rattle.oxc_mangler.specs.ShortNames.{candidate, digits_onto, readable_name}
+use Rattle.name_rules.specs.Kept.{name_arguments}
+use Rattle.name_rules.specs.Open.{all_open}
+use Rattle.name_rules.specs.ShortNames.{candidate, digits_onto, readable_name}
 use Rattle.tree_nodes.specs.Tree.{Text}
-use Rattle.tree_semantic.specs.Evals.{name_eval}
+use Rattle.scope_rules.specs.Evals.{name_eval}
 
 -- ---- the first that pass
 

@@ -9,9 +9,9 @@ use Rattle.std.proofs.lemmas.Bool.{both_ways}
 use Rattle.std.proofs.lemmas.List.{length-map}
 use Rattle.std.proofs.lemmas.Map.Text.{hash_set_updates_text}
 use Rattle.oxc_mangler.specs.Guard.{HasAlso}
-use Rattle.oxc_mangler.specs.Open.{all_open}
+use Rattle.name_rules.specs.Open.{all_open}
 use Rattle.tree_nodes.specs.Tree.{Text}
-use Rattle.tree_semantic.specs.PrivateNames.{is_among}
+use Rattle.scope_rules.specs.PrivateNames.{is_among}
 
 -- a name is among the names exactly if the set has its text
 pub among_is : {Y : Type 0} (keys : List (String Y)) (x : Text) → is_among (map string_bytes keys) x ≡ list_any (λ k. bytes_eq x (string_bytes k)) keys

@@ -4,20 +4,20 @@ use Rattle.std.proofs.Common.{refl, sym, ap, subst, arith, inl, inr}
 use Rattle.std.proofs.lemmas.Bool.{or_cases}
 use Rattle.std.proofs.lemmas.List.{length-append}
 use Rattle.syntax_lex.specs.Keyword.{is_reserved_keyword, reserved_keywords}
-use Rattle.oxc_mangler.proofs.Counting.{no_more}
-use Rattle.oxc_mangler.proofs.Given.{in-left, in-right, tells}
-use Rattle.oxc_mangler.proofs.Numbered.{short_is_one_to_one}
-use Rattle.oxc_mangler.proofs.Passing.{among-in}
+use Rattle.name_rules.proofs.Counting.{no_more}
+use Rattle.name_rules.proofs.Given.{in-left, in-right, tells}
+use Rattle.name_rules.proofs.Numbered.{short_is_one_to_one}
+use Rattle.name_rules.proofs.Passing.{among-in}
 use Rattle.oxc_mangler.specs.Guard.{is_never_given, is_refused}
-use Rattle.oxc_mangler.specs.Kept.{name_arguments}
-use Rattle.oxc_mangler.specs.Open.{all_open}
-use Rattle.oxc_mangler.specs.ShortNames.{short}
+use Rattle.name_rules.specs.Kept.{name_arguments}
+use Rattle.name_rules.specs.Open.{all_open}
+use Rattle.name_rules.specs.ShortNames.{short}
 use Rattle.tree_nodes.specs.Tree.{Text}
 use Rattle.tree_places.proofs.Runs.{AllOf, PairsOf}
-use Rattle.tree_semantic.proofs.Lists.{In, any-some}
-use Rattle.tree_semantic.specs.Bindings.{same_name}
-use Rattle.tree_semantic.specs.Evals.{name_eval}
-use Rattle.tree_semantic.specs.PrivateNames.{is_among}
+use Rattle.scope_rules.proofs.Lists.{In, any-some}
+use Rattle.scope_rules.specs.Bindings.{same_name}
+use Rattle.scope_rules.specs.Evals.{name_eval}
+use Rattle.scope_rules.specs.PrivateNames.{is_among}
 
 -- ---- names with numbers that follow one another
 

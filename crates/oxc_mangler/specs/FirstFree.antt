@@ -1,11 +1,11 @@
 -- What is asked of the first names that a guard doesn't refuse (own).
 use Rattle.std.specs.Prelude.{◌≡◌, ◌≤◌, ℕ, ◌+◌, Bool, List, length}
-use Rattle.oxc_mangler.specs.FreeNames.{first_untaken, is_taken}
-use Rattle.oxc_mangler.specs.GivenNames.{free_names}
-use Rattle.oxc_mangler.specs.Groups.{Member}
+use Rattle.name_rules.specs.FreeNames.{first_untaken, is_taken}
+use Rattle.name_rules.specs.GivenNames.{free_names}
+use Rattle.name_rules.specs.Groups.{Member}
 use Rattle.oxc_mangler.specs.Guard.{is_refused}
-use Rattle.oxc_mangler.specs.Options.{Options}
-use Rattle.oxc_mangler.specs.ShortNames.{candidate}
+use Rattle.name_rules.specs.Options.{Options}
+use Rattle.name_rules.specs.ShortNames.{candidate}
 use Rattle.tree_nodes.specs.Tree.{Text}
 
 -- the first n candidates that a guard with these names doesn't refuse. No more than 48 names and those that were inserted are refused, so any fuel from there on is enough

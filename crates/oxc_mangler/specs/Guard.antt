@@ -1,11 +1,11 @@
 -- Which names a guard refuses (own; ECMA-262, Keywords and Reserved Words).
 use Rattle.std.specs.Prelude.{◌≡◌, Bool, ◌||◌, List}
-use Rattle.oxc_mangler.specs.Kept.{name_arguments}
+use Rattle.name_rules.specs.Kept.{name_arguments}
 use Rattle.syntax_lex.specs.Keyword.{is_reserved_keyword}
 use Rattle.tree_nodes.specs.Tree.{Text}
-use Rattle.tree_semantic.specs.Bindings.{same_name}
-use Rattle.tree_semantic.specs.Evals.{name_eval}
-use Rattle.tree_semantic.specs.PrivateNames.{is_among}
+use Rattle.scope_rules.specs.Bindings.{same_name}
+use Rattle.scope_rules.specs.Evals.{name_eval}
+use Rattle.scope_rules.specs.PrivateNames.{is_among}
 
 -- a reserved keyword, `eval` or `arguments`
 unfoldable pub is_never_given : Text → Bool

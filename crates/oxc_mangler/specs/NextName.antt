@@ -1,7 +1,7 @@
 -- The next name that may be given (own).
 use Rattle.std.specs.Prelude.{◌≡◌, ◌≤◌, ◌<◌, ℕ, true, false, List}
 use Rattle.oxc_mangler.specs.Guard.{is_refused}
-use Rattle.oxc_mangler.specs.ShortNames.{short}
+use Rattle.name_rules.specs.ShortNames.{short}
 use Rattle.tree_nodes.specs.Tree.{Text}
 
 -- the least number from n on whose short name isn't refused

@@ -3,7 +3,7 @@
 ghost use Rattle.std.specs.Prelude.{◌≡◌, ◌≤◌, ◌^◌, [], ◌∷◌, ◌++◌, length, map, string_bytes, if◌then◌else◌, vec_len, IfOk, OnOk};
 ghost use Rattle.oxc_mangler.specs.FirstFree.{AreFirstFree, AreFreeWhereTaken};
 ghost use Rattle.oxc_mangler.specs.Guard.{is_refused};
-ghost use Rattle.oxc_mangler.specs.ShortNames.{candidate, readable_name};
+ghost use Rattle.name_rules.specs.ShortNames.{candidate, readable_name};
 
 use crate::guard::Guard;
 use crate::short_names::base54;
@@ -48,7 +48,7 @@ fn push_unless_refused(
 }
 
 /// The candidate with the number `n`, from 0.
-#[tactic(auto, unfolding(crate::specs::ShortNames::candidate))]
+#[tactic(auto, unfolding(name_rules::specs::ShortNames::candidate))]
 fn candidate(alloc: Global, readable: bool, n: u32) -> Result<String, AllocError>
     ensures { IfOk result (λ name. string_bytes name ≡ candidate readable n) }
 {

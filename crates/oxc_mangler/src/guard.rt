@@ -2,7 +2,7 @@
 
 ghost use Rattle.std.specs.Prelude.{◌≡◌, ◌+◌, [], length, IfOk, OnErr, if◌then◌else◌};
 ghost use Rattle.oxc_mangler.specs.Guard.{HasAlso, is_never_given, is_refused};
-ghost use Rattle.tree_semantic.specs.PrivateNames.{is_among};
+ghost use Rattle.scope_rules.specs.PrivateNames.{is_among};
 
 use std::alloc::{AllocError, Global};
 use std::collections::HashSet;
@@ -57,7 +57,7 @@ impl Guard {
 }
 
 /// Whether the name is a reserved keyword, `eval` or `arguments`.
-#[tactic(auto, unfolding(crate::specs::Open::all_open, crate::specs::Guard::is_never_given))]
+#[tactic(auto, unfolding(name_rules::specs::Open::all_open, crate::specs::Guard::is_never_given))]
 fn is_never_given(name: &str) -> bool
     ensures { result ≡ is_never_given name.now }
 {

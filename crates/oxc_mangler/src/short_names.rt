@@ -1,7 +1,7 @@
 //! Short names by their number.
 
 ghost use Rattle.std.specs.Prelude.{◌≡◌, ◌<◌, get_or};
-ghost use Rattle.oxc_mangler.specs.ShortNames.{characters, short};
+ghost use Rattle.name_rules.specs.ShortNames.{characters, short};
 
 use oxc_data_structures::inline_string::InlineString;
 

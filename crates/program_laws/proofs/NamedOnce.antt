@@ -17,8 +17,8 @@ use Rattle.tree_nodes.specs.declared.table.Group.{Group}
 use Rattle.tree_nodes.specs.declared.table.Group.TheVariants.{Only}
 use Rattle.tree_nodes.specs.declared.table.Role.{Role}
 use Rattle.tree_nodes.specs.declared.table.Role.TheVariants.{Plain}
-use Rattle.tree_semantic.specs.FunctionNames.{begins_with_name, is_function_expression, is_identifier_kind, names_functions_once}
-use Rattle.tree_semantic.specs.Open.{all_open}
+use Rattle.scope_rules.specs.FunctionNames.{begins_with_name, is_function_expression, is_identifier_kind, names_functions_once}
+use Rattle.scope_rules.specs.Open.{all_open}
 
 kind_told : (k l : Kind) → nat_eq (kind_number k) (kind_number l) ≡ true → k ≡ l
 kind_told k l h = sym (kind_at-kind_number k) ∙ ap kind_at (eqb-true (kind_number k) (kind_number l) h) ∙ kind_at-kind_number l

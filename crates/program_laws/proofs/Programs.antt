@@ -1,13 +1,13 @@
 -- Programs meet the premises of the laws on names.
-use Rattle.oxc_mangler.proofs.Rivals as rivals
+use Rattle.name_rules.proofs.Rivals as rivals
 use Rattle.program_laws.proofs.NamedOnce.{tree_once}
 use Rattle.program_laws.specs.Laws.{NamesOfProgramsSeparate, NoRivalOfAProgramUsesFewer, ProgramsAreRooted, ProgramsKeepFunctionNamesApart, ProgramsNameFunctionsOnce}
 use Rattle.tree_core.proofs.ReadsBack.{shape_read, tree_fits}
 use Rattle.tree_core.specs.Values.{value_of}
 use Rattle.tree_nodes.specs.Tree.{alone}
 use Rattle.tree_places.proofs.TreesRooted as rooted
-use Rattle.tree_semantic.proofs.FunctionNames as function_names
-use Rattle.tree_semantic.proofs.Separate as separate
+use Rattle.scope_rules.proofs.FunctionNames as function_names
+use Rattle.scope_rules.proofs.Separate as separate
 
 pub programs_name_functions_once : ProgramsNameFunctionsOnce
 programs_name_functions_once t p = tree_once t (tree_fits (value_of t) t p.0) (shape_read (value_of t) t p.0).1

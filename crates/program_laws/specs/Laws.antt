@@ -1,19 +1,19 @@
 -- The laws on programs: what a tree that is read meets of the laws on names. A tree stands as the run of it alone.
 use Rattle.std.specs.Prelude.{◌≡◌, ◌≤◌, ◌⊎◌, length, IsTrue, IsFalse}
-use Rattle.oxc_mangler.specs.Groups.{greatest_width, members}
-use Rattle.oxc_mangler.specs.Mangled.{IsRival, changes, names_where}
-use Rattle.oxc_mangler.specs.Options.{Options}
+use Rattle.name_rules.specs.Groups.{greatest_width, members}
+use Rattle.name_rules.specs.Mangled.{IsRival, changes, names_where}
+use Rattle.name_rules.specs.Options.{Options}
 use Rattle.tree_core.specs.Program.{IsProgram}
 use Rattle.tree_nodes.specs.Tree.{Parts, Tree, alone}
 use Rattle.tree_places.specs.Laws.{IsRooted}
 use Rattle.tree_places.specs.Places.{Place, places, sites}
-use Rattle.tree_semantic.specs.Bindings.{same_name}
-use Rattle.tree_semantic.specs.Faults.{has_crossing}
-use Rattle.tree_semantic.specs.FunctionNames.{names_functions_once}
-use Rattle.tree_semantic.specs.Homes.{home}
-use Rattle.tree_semantic.specs.PrivateNames.{distinct}
-use Rattle.tree_semantic.specs.Renamings.{IsBindingOf, is_live_in}
-use Rattle.tree_semantic.specs.Separation.{IsShadowedBy, function_names_apart}
+use Rattle.scope_rules.specs.Bindings.{same_name}
+use Rattle.scope_rules.specs.Faults.{has_crossing}
+use Rattle.scope_rules.specs.FunctionNames.{names_functions_once}
+use Rattle.scope_rules.specs.Homes.{home}
+use Rattle.scope_rules.specs.PrivateNames.{distinct}
+use Rattle.scope_rules.specs.Renamings.{IsBindingOf, is_live_in}
+use Rattle.scope_rules.specs.Separation.{IsShadowedBy, function_names_apart}
 
 -- each function expression of a program has one Identifier as its name, or none
 abbrev pub ProgramsNameFunctionsOnce : Type 0

@@ -4,7 +4,7 @@ use Rattle.std.proofs.lemmas.List.{length-map}
 use Rattle.one_scope.proofs.Taken.{one_less, place_at, refuses_taken, turn_given_up, turn_kept}
 use Rattle.one_scope.specs.EntryViews.{entry_view}
 use Rattle.one_scope.specs.Flat.{flat_slots, slot_owners}
-use Rattle.tree_semantic.specs.PrivateNames.{is_among}
+use Rattle.scope_rules.specs.PrivateNames.{is_among}
 use Rattle.one_scope.proofs.naming.taken_names.Goals as goal
 use Rattle.one_scope.proofs.naming.taken_names.Goals.{then-is_none+in_ok-insert, else-is_none}
 

@@ -4,7 +4,7 @@ use Rattle.one_scope.specs.EntryViews.{entry_view}
 use Rattle.one_scope.specs.Flat.{slot_owners}
 use Rattle.one_scope.specs.Steps.{keeps_name}
 use Rattle.tree_nodes.specs.Tree.{Text}
-use Rattle.tree_semantic.specs.PrivateNames.{is_among}
+use Rattle.scope_rules.specs.PrivateNames.{is_among}
 use Rattle.one_scope.proofs.naming.taken_names.Given as goal
 
 abbrev pub invariant-loop-i : goal.invariant-loop-i

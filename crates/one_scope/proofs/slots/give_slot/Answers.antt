@@ -3,7 +3,7 @@ use Rattle.std.proofs.Common.{sym, ap, ◌∙◌}
 use Rattle.std.proofs.lemmas.Map.Text.{hash_map_updates_str}
 use Rattle.one_scope.proofs.Texts.{put_absent, put_present}
 use Rattle.one_scope.specs.Steps.{at_name}
-use Rattle.tree_semantic.specs.Bindings.{or_else}
+use Rattle.scope_rules.specs.Bindings.{or_else}
 use Rattle.one_scope.proofs.slots.give_slot.Goals as goal
 
 pub returns-in_ok-insert-clause-puts : goal.returns-in_ok-insert-clause-puts

@@ -3,7 +3,7 @@ use Rattle.std.specs.List.{list_any}
 use Rattle.std.proofs.Common.{sym, ap, ◌∙◌}
 use Rattle.one_scope.specs.EntryViews.{entry_view}
 use Rattle.one_scope.specs.Flat.{is_flat_eval, keeps_all}
-use Rattle.tree_semantic.proofs.Lists.{any-map}
+use Rattle.scope_rules.proofs.Lists.{any-map}
 use Rattle.one_scope.proofs.slots.keeps_all.Goals as goal
 
 pub returns-then-not-top_level : goal.returns-then-not-top_level

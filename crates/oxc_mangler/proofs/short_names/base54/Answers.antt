@@ -1,5 +1,5 @@
 use Rattle.std.proofs.Common.{◌-◌, arith}
-use Rattle.oxc_mangler.proofs.Characters.{end-told, room-left, start-told, step-told}
+use Rattle.name_rules.proofs.Characters.{end-told, room-left, start-told, step-told}
 use Rattle.oxc_mangler.proofs.short_names.base54.Goals as goal
 
 pub loop-left-init : goal.loop-left-init

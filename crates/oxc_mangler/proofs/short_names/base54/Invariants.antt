@@ -1,5 +1,5 @@
 use Rattle.std.proofs.Common.{◌≡◌, ◌++◌}
-use Rattle.oxc_mangler.specs.ShortNames.{more_characters, short}
+use Rattle.name_rules.specs.ShortNames.{more_characters, short}
 use Rattle.oxc_mangler.proofs.short_names.base54.Given as goal
 
 abbrev pub invariant-loop-left : goal.invariant-loop-left

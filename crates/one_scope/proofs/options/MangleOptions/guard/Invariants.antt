@@ -1,6 +1,6 @@
 use Rattle.std.specs.Prelude.{◌≡◌, ◌≤◌, ◌+◌, ◌||◌, length, map, string_bytes}
 use Rattle.tree_nodes.specs.Tree.{Text}
-use Rattle.tree_semantic.specs.PrivateNames.{is_among}
+use Rattle.scope_rules.specs.PrivateNames.{is_among}
 use Rattle.one_scope.proofs.options.MangleOptions.guard.Given as goal
 
 abbrev pub invariant-loop-name : goal.invariant-loop-name

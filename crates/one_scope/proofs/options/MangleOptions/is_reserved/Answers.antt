@@ -1,9 +1,9 @@
 use Rattle.std.specs.Prelude.{Bool, ◌||◌}
 use Rattle.std.proofs.Common.{sym, ap, ◌∙◌}
 use Rattle.oxc_mangler.proofs.Guarded.{among_is}
-use Rattle.oxc_mangler.specs.Kept.{is_reserved}
-use Rattle.tree_semantic.specs.Bindings.{same_name}
-use Rattle.tree_semantic.specs.PrivateNames.{is_among}
+use Rattle.name_rules.specs.Kept.{is_reserved}
+use Rattle.scope_rules.specs.Bindings.{same_name}
+use Rattle.scope_rules.specs.PrivateNames.{is_among}
 use Rattle.one_scope.proofs.options.MangleOptions.is_reserved.Goals as goal
 
 pub returns-then-eq : goal.returns-then-eq

@@ -1,0 +1,270 @@
+-- The number of slots is the greatest width.
+use Rattle.std.specs.Prelude.{◌≡◌, ◌⊎◌, ℕ, zero, suc, ◌+◌, ◌≤◌, ◌<◌, max, Bool, true, false, cond, List, [], ◌∷◌, ◌++◌, eqb, length, map, filter}
+use Rattle.std.specs.List.{list_any, IsDistinct, AllByRecursion}
+use Rattle.std.specs.Cmp.{nat_eq_equiv}
+use Rattle.std.proofs.Common.{refl, sym, ap, ◌∙◌, subst, arith, inl, inr}
+use Rattle.std.proofs.lemmas.Bool.{or_cases, or_left, both_ways, eqb-true, ne_eqb, cases_order}
+use Rattle.std.proofs.lemmas.Map.Steps.{length-le_from_distinct_below}
+use Rattle.std.proofs.lemmas.Map.Made.{length-le_from_is_member}
+use Rattle.std.proofs.lemmas.List.{length-map, map-append, append-nil, append_assoc}
+use Rattle.name_rules.specs.Open.{all_open}
+use Rattle.name_rules.proofs.Apart.{In_order, Kept_apart, never_together, slots-apart}
+use Rattle.tree_places.proofs.Runs.{AllOf, AllOf-push, PairsOf}
+use Rattle.name_rules.specs.Groups.{Group, Member, greatest, is_live, width}
+use Rattle.tree_places.specs.Scopes.{Scope, same_scope}
+use Rattle.name_rules.specs.Slots.{Slotted, least_missing, number_of_slots, slot_after, slots, slots_after, slots_live}
+use Rattle.name_rules.specs.GivenNames.{count_from}
+use Rattle.tree_places.proofs.Outwards.{same-eq, same-refl}
+
+apart_all : (x : ℕ) (xs : List ℕ) → AllOf (λ y. x ≡ y → ⊥) xs → AllByRecursion (λ y. eqb x y ≡ false) xs
+unfolding all_open
+apart_all x [] a = tt
+apart_all x (y ∷ ys) a = (ne_eqb x y a.0, apart_all x ys a.1)
+
+pub distinct_from : (xs : List ℕ) → PairsOf (λ x y. x ≡ y → ⊥) xs → IsDistinct eqb xs
+unfolding IsDistinct
+distinct_from [] p = tt
+distinct_from (x ∷ xs) p = (apart_all x xs p.0, distinct_from xs p.1)
+
+below : (n : ℕ) (xs : List ℕ) → AllOf (λ x. x < n) xs → (q : ℕ) → list_any (eqb q) xs ≡ true → q < n
+unfolding all_open
+below n [] a q h = absurd (both_ways _ refl h)
+below n (x ∷ xs) a q h = go (or_cases _ _ h) (below n xs a.1 q)
+  where
+    go : (eqb q x ≡ true) ⊎ (list_any (eqb q) xs ≡ true) → (list_any (eqb q) xs ≡ true → q < n) → q < n
+    go (inl e) ih = rw (eqb-true q x e) a.0
+    go (inr e) ih = ih e
+
+-- different numbers below n are at most n
+at_most : (n : ℕ) (xs : List ℕ) → PairsOf (λ x y. x ≡ y → ⊥) xs → AllOf (λ x. x < n) xs → length xs ≤ n
+unfolding all_open
+at_most n xs p a = length-le_from_distinct_below xs n (distinct_from xs p) (below n xs a)
+
+count-above : (n k : ℕ) → AllOf (λ y. k ≤ y) (count_from n k)
+unfolding all_open
+count-above zero k = tt
+count-above (suc n) k = (omega arith, weaken (count_from n (suc k)) (count-above n (suc k)))
+  where
+    weaken : (xs : List ℕ) → AllOf (λ y. suc k ≤ y) xs → AllOf (λ y. k ≤ y) xs
+    weaken [] a = tt
+    weaken (x ∷ xs) a = (let i : suc k ≤ x = a.0 in omega arith, weaken xs a.1)
+
+pub count-apart : (n k : ℕ) → PairsOf (λ x y. x ≡ y → ⊥) (count_from n k)
+unfolding all_open
+count-apart zero k = tt
+count-apart (suc n) k = (other (count_from n (suc k)) (count-above n (suc k)), count-apart n (suc k))
+  where
+    other : (xs : List ℕ) → AllOf (λ y. suc k ≤ y) xs → AllOf (λ y. k ≡ y → ⊥) xs
+    other [] a = tt
+    other (x ∷ xs) a = ((λ e. let i : suc k ≤ x = a.0 in omega arith), other xs a.1)
+
+pub count-length : (n k : ℕ) → length (count_from n k) ≡ n
+unfolding all_open
+count-length zero k = refl
+count-length (suc n) k = ap suc (count-length n (suc k))
+
+count-below : (n k q : ℕ) → list_any (eqb q) (count_from n k) ≡ true → q < n + k
+unfolding all_open
+count-below zero k q h = absurd (both_ways _ refl h)
+count-below (suc n) k q h = go (or_cases _ _ h) (count-below n (suc k) q)
+  where
+    go : (eqb q k ≡ true) ⊎ (list_any (eqb q) (count_from n (suc k)) ≡ true) → (list_any (eqb q) (count_from n (suc k)) ≡ true → q < n + suc k) → q < suc n + k
+    go (inl e) ih = let i : q ≡ k = eqb-true q k e in omega arith
+    go (inr e) ih = let i : q < n + suc k = ih e in omega arith
+
+-- a list with all numbers below n has n items
+at_least : (n : ℕ) (ns : List ℕ) → ((j : ℕ) → j < n → list_any (eqb j) ns ≡ true) → n ≤ length ns
+unfolding all_open
+at_least n ns h = subst (λ (m : ℕ). m ≤ length ns) (count-length n 0)
+    (length-le_from_is_member nat_eq_equiv (count_from n 0) ns (distinct_from (count_from n 0) (count-apart n 0)) (λ q m. h q (let i : q < n + 0 = count-below n 0 q m in omega arith)))
+
+-- all numbers below the least missing one are listed
+pub below-missing : (fuel : ℕ) (ns : List ℕ) (k j : ℕ) → k ≤ j → j < least_missing fuel ns k → list_any (eqb j) ns ≡ true
+unfolding all_open
+below-missing zero ns k j h i = absurd (omega arith)
+below-missing (suc fuel) ns k j h i = go (list_any (eqb k) ns) refl i (below-missing fuel ns (suc k) j)
+  where
+    go : (b : Bool) → list_any (eqb k) ns ≡ b → j < cond b (least_missing fuel ns (suc k)) k → (suc k ≤ j → j < least_missing fuel ns (suc k) → list_any (eqb j) ns ≡ true) → list_any (eqb j) ns ≡ true
+    go false e i' ih = absurd (omega arith)
+    go true e i' ih = at (cases_order k j)
+      where
+        at : (k ≡ j) ⊎ ((k < j) ⊎ (j < k)) → list_any (eqb j) ns ≡ true
+        at (inl q) = subst (λ (x : ℕ). list_any (eqb x) ns ≡ true) q e
+        at (inr (inl q)) = ih q i'
+        at (inr (inr q)) = absurd (omega arith)
+
+-- ---- the slots' side
+
+abbrev live_in : List Member → Scope → Slotted → Bool
+live_in ms s b = is_live ms s b.group
+
+-- how many of these are live in s
+abbrev how_many : List Member → List Slotted → Scope → ℕ
+how_many ms bs s = length (filter (live_in ms s) bs)
+
+abbrev pub Ordered_apart : List Member → Slotted → Slotted → Type 0
+Ordered_apart ms b c = Kept_apart ms b c × In_order b.group c.group
+
+others-apart : (ms : List Member) (s : Scope) (b : Slotted) (bs : List Slotted) → is_live ms s b.group ≡ true → AllOf (Ordered_apart ms b) bs → AllOf (λ y. b.slot ≡ y → ⊥) (slots_live ms bs s)
+unfolding all_open
+others-apart ms s b [] l a = tt
+others-apart ms s b (c ∷ cs) l a = go (live_in ms s c) refl (others-apart ms s b cs l a.1)
+  where
+    go : (v : Bool) → live_in ms s c ≡ v → AllOf (λ y. b.slot ≡ y → ⊥) (slots_live ms cs s) → AllOf (λ y. b.slot ≡ y → ⊥) (map (λ (d : Slotted). d.slot) (cond v (c ∷ filter (live_in ms s) cs) (filter (live_in ms s) cs)))
+    go true e ih = ((λ q. never_together ms b c a.0.0 a.0.1 q s l e), ih)
+    go false e ih = ih
+
+live-apart : (ms : List Member) (s : Scope) (bs : List Slotted) → PairsOf (Ordered_apart ms) bs → PairsOf (λ x y. x ≡ y → ⊥) (slots_live ms bs s)
+unfolding all_open
+live-apart ms s [] p = tt
+live-apart ms s (b ∷ bs) p = go (live_in ms s b) refl (live-apart ms s bs p.1)
+  where
+    go : (v : Bool) → live_in ms s b ≡ v → PairsOf (λ x y. x ≡ y → ⊥) (slots_live ms bs s) → PairsOf (λ x y. x ≡ y → ⊥) (map (λ (d : Slotted). d.slot) (cond v (b ∷ filter (live_in ms s) bs) (filter (live_in ms s) bs)))
+    go true e ih = (others-apart ms s b bs e p.0, ih)
+    go false e ih = ih
+
+live-below : (ms : List Member) (s : Scope) (bs : List Slotted) (n : ℕ) → number_of_slots bs ≤ n → AllOf (λ y. y < n) (slots_live ms bs s)
+unfolding all_open
+live-below ms s [] n h = tt
+live-below ms s (b ∷ bs) n h = go (live_in ms s b) (live-below ms s bs n (omega arith))
+  where
+    go : (v : Bool) → AllOf (λ y. y < n) (slots_live ms bs s) → AllOf (λ y. y < n) (map (λ (d : Slotted). d.slot) (cond v (b ∷ filter (live_in ms s) bs) (filter (live_in ms s) bs)))
+    go true ih = (omega arith, ih)
+    go false ih = ih
+
+-- no scope has more live groups than there are slots
+width-at_most : (ms : List Member) (bs : List Slotted) (s : Scope) → PairsOf (Ordered_apart ms) bs → how_many ms bs s ≤ number_of_slots bs
+unfolding all_open
+width-at_most ms bs s p = subst (λ (m : ℕ). m ≤ number_of_slots bs) (length-map (filter (live_in ms s) bs) (λ b. b.slot)) (at_most (number_of_slots bs) (slots_live ms bs s) (live-apart ms s bs p) (live-below ms s bs (number_of_slots bs) (omega arith)))
+
+-- ---- each slot is needed in its group's home
+
+filter-push : (p : Slotted → Bool) (bs : List Slotted) (c : Slotted) → length (filter p (bs ++ c ∷ [])) ≡ length (filter p bs) + cond (p c) 1 0
+unfolding all_open
+filter-push p [] c = go (p c)
+  where
+    go : (v : Bool) → length (cond v (c ∷ []) []) ≡ 0 + cond v 1 0
+    go true = refl
+    go false = refl
+filter-push p (b ∷ bs) c = go (p b) (filter-push p bs c)
+  where
+    go : (v : Bool) → length (filter p (bs ++ c ∷ [])) ≡ length (filter p bs) + cond (p c) 1 0 → length (cond v (b ∷ filter p (bs ++ c ∷ [])) (filter p (bs ++ c ∷ []))) ≡ length (cond v (b ∷ filter p bs) (filter p bs)) + cond (p c) 1 0
+    go true ih = omega arith
+    go false ih = ih
+
+abbrev Needed : List Member → List Slotted → Slotted → Type 0
+Needed ms bs b = suc b.slot ≤ how_many ms bs b.group.home
+
+still-needed : (ms : List Member) (bs : List Slotted) (c : Slotted) (xs : List Slotted) → AllOf (Needed ms bs) xs → AllOf (Needed ms (bs ++ c ∷ [])) xs
+unfolding all_open
+still-needed ms bs c [] a = tt
+still-needed ms bs c (b ∷ xs) a = (let i : suc b.slot ≤ how_many ms bs b.group.home = a.0 in omega (arith, filter-push (live_in ms b.group.home) bs c), still-needed ms bs c xs a.1)
+
+new-needed : (ms : List Member) (bs : List Slotted) (g : Group) → Needed ms (bs ++ record { group = g; slot = slot_after ms bs g } ∷ []) (record { group = g; slot = slot_after ms bs g })
+unfolding all_open
+new-needed ms bs g =
+    let live : List ℕ = slots_live ms bs g.home in
+    let k : slot_after ms bs g ≤ length live = at_least (slot_after ms bs g) live (λ j h. below-missing (suc (greatest live)) live 0 j (omega arith) h) in
+    let at : is_live ms g.home g ≡ true = or_left _ _ (same-refl g.home) in
+    rw (filter-push (live_in ms g.home) bs (record { group = g; slot = slot_after ms bs g }), at, ← length-map (filter (live_in ms g.home) bs) (λ b. b.slot)) (omega arith)
+
+slots-needed : (ms : List Member) (bs : List Slotted) (gs : List Group) → AllOf (Needed ms bs) bs → AllOf (Needed ms (slots_after ms bs gs)) (slots_after ms bs gs)
+unfolding all_open
+slots-needed ms bs [] a = a
+slots-needed ms bs (g ∷ gs) a =
+    let c : Slotted = record { group = g; slot = slot_after ms bs g } in
+    slots-needed ms (bs ++ c ∷ []) gs (AllOf-push (Needed ms (bs ++ c ∷ [])) bs c (still-needed ms bs c bs a) (new-needed ms bs g))
+
+-- ---- both together
+
+pub slotted-groups : (ms : List Member) (bs : List Slotted) (gs : List Group) → map (λ b. b.group) (slots_after ms bs gs) ≡ map (λ b. b.group) bs ++ gs
+unfolding all_open
+slotted-groups ms bs [] = sym (append-nil (map (λ b. b.group) bs))
+slotted-groups ms bs (g ∷ gs) =
+    let c : Slotted = record { group = g; slot = slot_after ms bs g } in
+    slotted-groups ms (bs ++ c ∷ []) gs ∙ ap (λ xs. xs ++ gs) (map-append (λ (b : Slotted). b.group) bs (c ∷ [])) ∙ append_assoc (map (λ b. b.group) bs) (g ∷ []) gs
+
+count-map : (p : Group → Bool) (bs : List Slotted) → length (filter p (map (λ b. b.group) bs)) ≡ length (filter (λ b. p b.group) bs)
+unfolding all_open
+count-map p [] = refl
+count-map p (b ∷ bs) = go (p b.group) (count-map p bs)
+  where
+    go : (v : Bool) → length (filter p (map (λ (c : Slotted). c.group) bs)) ≡ length (filter (λ c. p c.group) bs)
+        → length (cond v (b.group ∷ filter p (map (λ (c : Slotted). c.group) bs)) (filter p (map (λ (c : Slotted). c.group) bs))) ≡ length (cond v (b ∷ filter (λ c. p c.group) bs) (filter (λ c. p c.group) bs))
+    go true ih = ap suc ih
+    go false ih = ih
+
+join_all : (ms : List Member) (b : Slotted) (bs : List Slotted) → AllOf (Kept_apart ms b) bs → AllOf (In_order b.group) (map (λ c. c.group) bs) → AllOf (Ordered_apart ms b) bs
+unfolding all_open
+join_all ms b [] k o = tt
+join_all ms b (c ∷ cs) k o = ((k.0, o.0), join_all ms b cs k.1 o.1)
+
+join_pairs : (ms : List Member) (bs : List Slotted) → PairsOf (Kept_apart ms) bs → PairsOf In_order (map (λ c. c.group) bs) → PairsOf (Ordered_apart ms) bs
+unfolding all_open
+join_pairs ms [] k o = tt
+join_pairs ms (b ∷ bs) k o = (join_all ms b bs k.0 o.0, join_pairs ms bs k.1 o.1)
+
+greatest-at_most : (f : Scope → ℕ) (ss : List Scope) (n : ℕ) → ((s : Scope) → f s ≤ n) → greatest (map f ss) ≤ n
+unfolding all_open
+greatest-at_most f [] n h = omega arith
+greatest-at_most f (s ∷ ss) n h = let i : f s ≤ n = h s in let j : greatest (map f ss) ≤ n = greatest-at_most f ss n h in omega arith
+
+greatest-at : (f : Scope → ℕ) (ss : List Scope) (s : Scope) → list_any (same_scope s) ss ≡ true → f s ≤ greatest (map f ss)
+unfolding all_open
+greatest-at f [] s h = absurd (both_ways _ refl h)
+greatest-at f (r ∷ rs) s h = go (or_cases _ _ h) (greatest-at f rs s)
+  where
+    go : (same_scope s r ≡ true) ⊎ (list_any (same_scope s) rs ≡ true) → (list_any (same_scope s) rs ≡ true → f s ≤ greatest (map f rs)) → f s ≤ max (f r) (greatest (map f rs))
+    go (inl e) ih = subst (λ (x : Scope). f s ≤ max (f x) (greatest (map f rs))) (same-eq s r e) (omega arith)
+    go (inr e) ih = let i : f s ≤ greatest (map f rs) = ih e in omega arith
+
+slots-at_most : (ms : List Member) (whole bs : List Slotted) (ss : List Scope) → AllOf (Needed ms whole) bs → AllOf (λ g. list_any (same_scope g.home) ss ≡ true) (map (λ b. b.group) bs)
+    → number_of_slots bs ≤ greatest (map (how_many ms whole) ss)
+unfolding all_open
+slots-at_most ms whole [] ss a h = omega arith
+slots-at_most ms whole (b ∷ bs) ss a h =
+    let i : suc b.slot ≤ how_many ms whole b.group.home = a.0 in
+    let j : how_many ms whole b.group.home ≤ greatest (map (how_many ms whole) ss) = greatest-at (how_many ms whole) ss b.group.home h.0 in
+    let r : number_of_slots bs ≤ greatest (map (how_many ms whole) ss) = slots-at_most ms whole bs ss a.1 h.1 in
+    omega arith
+
+same-width : (ms : List Member) (gs : List Group) (r : Scope) → width ms gs r ≡ how_many ms (slots ms gs) r
+unfolding all_open
+same-width ms gs r = ap (λ hs. length (filter (is_live ms r) hs)) (sym (slotted-groups ms [] gs)) ∙ count-map (is_live ms r) (slots ms gs)
+
+same-widths : (ms : List Member) (gs : List Group) (ss : List Scope) → map (width ms gs) ss ≡ map (how_many ms (slots ms gs)) ss
+unfolding all_open
+same-widths ms gs [] = refl
+same-widths ms gs (s ∷ ss) = ap (λ n. n ∷ map (width ms gs) ss) (same-width ms gs s) ∙ ap (λ ns. how_many ms (slots ms gs) s ∷ ns) (same-widths ms gs ss)
+
+-- the slots of ordered groups are apart
+pub pairs-apart : (ms : List Member) (gs : List Group) → PairsOf In_order gs → PairsOf (Ordered_apart ms) (slots ms gs)
+unfolding all_open
+pairs-apart ms gs o = join_pairs ms (slots ms gs) (slots-apart ms [] gs tt) (subst (PairsOf In_order) (sym (slotted-groups ms [] gs)) o)
+
+-- the width of the home of a group with the last slot
+pub last-width : (ms : List Member) (gs : List Group) → PairsOf In_order gs → AllOf (λ b. suc b.slot ≡ number_of_slots (slots ms gs) → width ms gs b.group.home ≡ number_of_slots (slots ms gs)) (slots ms gs)
+unfolding all_open
+last-width ms gs o = go (slots ms gs) (slots-needed ms [] gs tt)
+  where
+    go : (bs : List Slotted) → AllOf (Needed ms (slots ms gs)) bs → AllOf (λ b. suc b.slot ≡ number_of_slots (slots ms gs) → width ms gs b.group.home ≡ number_of_slots (slots ms gs)) bs
+    go [] a = tt
+    go (b ∷ bs) a = (
+      λ e.
+          let i : suc b.slot ≤ how_many ms (slots ms gs) b.group.home = a.0 in
+          let j : how_many ms (slots ms gs) b.group.home ≤ number_of_slots (slots ms gs) = width-at_most ms (slots ms gs) b.group.home (pairs-apart ms gs o) in
+          rw (same-width ms gs b.group.home) (omega (arith, i, j, e)),
+      go bs a.1,
+    )
+
+-- the number of slots is the greatest width, where the groups stand in order and their homes are among the scopes
+pub slots-fewest : (ms : List Member) (gs : List Group) (ss : List Scope) → PairsOf In_order gs → AllOf (λ g. list_any (same_scope g.home) ss ≡ true) gs
+    → number_of_slots (slots ms gs) ≡ greatest (map (width ms gs) ss)
+unfolding all_open
+slots-fewest ms gs ss o h =
+    let bs : List Slotted = slots ms gs in
+    let same : map (λ b. b.group) bs ≡ gs = slotted-groups ms [] gs in
+    let pairs : PairsOf (Ordered_apart ms) bs = pairs-apart ms gs o in
+    let down : number_of_slots bs ≤ greatest (map (how_many ms bs) ss) = slots-at_most ms bs bs ss (slots-needed ms [] gs tt) (subst (AllOf (λ g. list_any (same_scope g.home) ss ≡ true)) (sym same) h) in
+    let up : greatest (map (how_many ms bs) ss) ≤ number_of_slots bs = greatest-at_most (how_many ms bs) ss (number_of_slots bs) (λ s. width-at_most ms bs s pairs) in
+    rw (same-widths ms gs ss) (omega arith)

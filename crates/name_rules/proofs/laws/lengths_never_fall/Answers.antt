@@ -1,0 +1,5 @@
+use Rattle.name_rules.proofs.Numbered as numbered
+use Rattle.name_rules.proofs.laws.lengths_never_fall.Goals as goal
+
+pub returns : goal.returns
+returns c = numbered.lengths_never_fall

@@ -1,0 +1,5 @@
+use Rattle.name_rules.proofs.Together as together
+use Rattle.name_rules.proofs.laws.live_up_to_home.Goals as goal
+
+pub returns : goal.returns
+returns c = together.live_up_to_home

@@ -1,0 +1,5 @@
+use Rattle.name_rules.proofs.Order as order
+use Rattle.name_rules.proofs.laws.slots_never_clash.Goals as goal
+
+pub returns : goal.returns
+returns c = order.slots_never_clash

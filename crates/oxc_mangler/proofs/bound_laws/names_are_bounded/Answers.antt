@@ -1,8 +1,0 @@
-use Rattle.oxc_mangler.proofs.Bounds as bounds
-use Rattle.oxc_mangler.proofs.bound_laws.names_are_bounded.Goals as goal
-
-pub returns-clause-bounded : goal.returns-clause-bounded
-returns-clause-bounded c = bounds.names_are_bounded
-
-pub returns-clause-small : goal.returns-clause-small
-returns-clause-small c = bounds.bound_is_small

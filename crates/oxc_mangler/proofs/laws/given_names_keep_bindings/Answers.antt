@@ -1,9 +1,0 @@
-use Rattle.oxc_mangler.proofs.Renamed as renamed
-use Rattle.oxc_mangler.proofs.SlotNamed as slot_named
-use Rattle.oxc_mangler.proofs.laws.given_names_keep_bindings.Goals as goal
-
-pub returns-clause-fit : goal.returns-clause-fit
-returns-clause-fit c = slot_named.given_names_fit
-
-pub returns-clause-bindings : goal.returns-clause-bindings
-returns-clause-bindings c = renamed.given_names_keep_bindings

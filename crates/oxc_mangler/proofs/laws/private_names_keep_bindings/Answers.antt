@@ -1,7 +1,0 @@
-use Rattle.oxc_mangler.proofs.PrivateChains as chains
-use Rattle.oxc_mangler.proofs.laws.private_names_keep_bindings.Goals as goal
-use Rattle.tree_places.specs.Places.{places}
-use Rattle.tree_semantic.proofs.Lists.{contains_from_in}
-
-pub returns : goal.returns
-returns _ = λ t new sound so. chains.private_names_keep_bindings t new (λ p i. so p (contains_from_in (places t) p i)) sound

@@ -1,7 +1,0 @@
-use Rattle.oxc_mangler.proofs.PrivateChains as chains
-use Rattle.oxc_mangler.proofs.laws.private_numbers_differ.Goals as goal
-use Rattle.tree_places.specs.Places.{places}
-use Rattle.tree_semantic.proofs.Lists.{in_from_Contains}
-
-pub returns : goal.returns
-returns _ = λ t p among c d outside_c outside_d h k i j a b e. chains.private_numbers_differ t p (in_from_Contains (places t) p among) c d outside_c outside_d h k i j a b e

@@ -1,0 +1,5 @@
+use Rattle.scope_rules.proofs.Separate as separate
+use Rattle.scope_rules.proofs.separation_laws.names_separate.Goals as goal
+
+pub returns : goal.returns
+returns c = separate.names_separate

@@ -1,5 +1,0 @@
-use Rattle.tree_semantic.proofs.Stay as stay
-use Rattle.tree_semantic.proofs.laws.bindings_stay.Goals as goal
-
-pub returns : goal.returns
-returns g c = λ same same' ps new tells tells' k. stay.bindings_stay same same' tells tells' ps new k

@@ -1,5 +1,0 @@
-use Rattle.tree_semantic.proofs.FunctionNames as function_names
-use Rattle.tree_semantic.proofs.separation_laws.function_names_stand_apart.Goals as goal
-
-pub returns : goal.returns
-returns c = function_names.function_names_stand_apart

@@ -1,0 +1,12 @@
+use Rattle.std.proofs.Common.{refl}
+use Rattle.worked_examples.proofs.Apart.{apart, same_texts, untrue}
+use Rattle.worked_examples.proofs.functions.direct_eval_keeps.Goals as goal
+use Rattle.worked_examples.specs.Open.{all_open}
+
+pub returns-clause-renamed : goal.returns-clause-renamed
+unfolding all_open
+returns-clause-renamed c = record { valid = refl; fails = record { alike = refl; plain = refl; marked = refl; bound = refl; private = refl; stay = apart same_texts _ _ refl refl; one = refl; free = refl; fewest = refl } }
+
+pub returns-clause-kept_name : goal.returns-clause-kept_name
+unfolding all_open
+returns-clause-kept_name c = record { valid = refl; fails = record { alike = refl; plain = refl; marked = refl; bound = refl; private = refl; stay = refl; one = refl; free = untrue _ refl; fewest = refl } }

@@ -1,9 +1,0 @@
-use Rattle.std.specs.Prelude.{nat_eq}
-use Rattle.std.proofs.Common.{refl}
-use Rattle.worked_rows.proofs.Apart.{apart, same_options}
-use Rattle.worked_rows.proofs.blocks.inner_use_keeps_apart.Goals as goal
-use Rattle.worked_rows.specs.Open.{all_open}
-
-pub returns-clause-one_name : goal.returns-clause-one_name
-unfolding all_open
-returns-clause-one_name c = record { valid = refl; fails = record { alike = refl; plain = refl; marked = refl; bound = apart same_options _ _ refl refl; private = refl; stay = refl; one = refl; free = refl; fewest = apart nat_eq _ _ refl refl } }
