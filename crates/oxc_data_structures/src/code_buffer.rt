@@ -26,7 +26,7 @@ pub enum IndentChar {
 impl IndentChar {
     ghost use Rattle.oxc_data_structures.specs.CodeBuffer.{indent_byte};
 
-    /// The character, which is ASCII.
+    // The character, which is ASCII.
     fn byte(self) -> u8
         ensures byte { result ≡ indent_byte self }
         ensures ascii { result < 128 }
@@ -286,7 +286,7 @@ impl CodeBuffer {
     }
 }
 
-/// Appends an ASCII byte `count` times, or not at all.
+// Appends an ASCII byte `count` times, or not at all.
 fn push_times(text: &mut String, byte: u8, count: usize) -> Result<(), AllocError>
     requires { byte < 128 }
     ensures ok { OnOk result (string_bytes text.new ≡ string_bytes text.old ++ replicate count byte) }

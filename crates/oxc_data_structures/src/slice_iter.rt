@@ -90,7 +90,7 @@ impl<'s, T> SliceCursor<'s, T> {
     }
 }
 
-/// How many entries a cursor has passed.
+// How many entries a cursor has passed.
 // A model makes the prover follow what the struct around it lends out of its slice.
 #[derive(Drop)]
 struct Passed {
@@ -219,7 +219,7 @@ impl<'s, T> SliceCursorMut<'s, T> {
         self.end_mut(start)
     }
 
-    /// Where the entries that are left start.
+    // Where the entries that are left start.
     fn start(&self) -> usize
         ensures { result ≡ min self.now.passed (length self.now.slice.now) }
     {
