@@ -17,7 +17,9 @@ const WORD_BITS: usize = 64;
 /// is true.
 #[derive(Drop)]
 pub struct BitSet<A: Allocator> {
+    /// A bit for each number, the lowest first. Those past the length are 0.
     words: Vec<u64, A>,
+    /// The bound below which the members are.
     len: usize,
 }
 
@@ -87,7 +89,9 @@ impl<A: Allocator> BitSet<A> {
 /// The members of a [`BitSet`] in rising order, each once. Contracts see it as the list of those left.
 #[derive(Drop)]
 pub struct Ones<'s> {
+    /// The set's words.
     words: &'s [u64],
+    /// The set's length.
     len: usize,
     /// No number below this is left.
     at: usize,

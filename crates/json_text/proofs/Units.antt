@@ -5,9 +5,9 @@ use Rattle.std.specs.Char.Escape.{encode_utf16}
 use Rattle.std.specs.Char.Utf16.{utf16_chars, has_unpaired_surrogate, lone_unit_char, surrogate_pair_char}
 use Rattle.std.specs.List.{list_any}
 use Rattle.std.specs.Str.{all_scalars}
-use Rattle.std.proofs.lemmas.Bool.{and_parts, cases_lt}
+use Rattle.std.proofs.lemmas.Bool.{and_parts, cases_lt, not-true}
 use Rattle.std.proofs.lemmas.Bool.Decides.{Decides-like, nat_tests, same_from_decides}
-use Rattle.std.proofs.lemmas.Option.{same_Some}
+use Rattle.std.proofs.lemmas.Option.{cond_some, same_Some}
 use Rattle.std.proofs.lemmas.Slice.Eq.{bytes_eq-Decides}
 use Rattle.std.proofs.lemmas.Str.{IsUtf8-from_ascii, chars-encodes, chars-IsAscii, encodes-chars, scalars-chars, utf16_chars-nil, utf16_chars_lone, utf16_chars_pair}
 use Rattle.std.proofs.str.Utf16.{IsPair}
@@ -213,9 +213,10 @@ spelled (u ∷ v ∷ us) a n =
     (unit_kind u v)
 
 text_from : (a b : Bool) (t bs : List ℕ) → (if a && not b then Some t else None) ≡ Some bs → (a ≡ true) × (b ≡ false) × (t ≡ bs)
-text_from false b t bs e = absurd (cc)
-text_from true true t bs e = absurd (cc)
-text_from true false t bs e = (refl, refl, cc)
+text_from a b t bs e =
+    let some = cond_some (a && not b) t bs e in
+    let tests = and_parts a (not b) some.0 in
+    (tests.0, not-true b tests.1, some.1)
 
 -- what has a text is of code units
 pub AreCodeUnits-text_of_units : (us bs : List ℕ) → text_of_units us ≡ Some bs → AreCodeUnits us

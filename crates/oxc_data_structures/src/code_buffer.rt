@@ -50,8 +50,11 @@ pub fn indent_chars_are_equal_exactly(a: IndentChar, b: IndentChar)
 /// A print that is refused for want of memory leaves the buffer as it was.
 #[derive(Drop)]
 pub struct CodeBuffer {
+    /// What was printed so far.
     text: String,
+    /// What an indent is made of.
     indent_char: IndentChar,
+    /// How many of them one level of indent has.
     indent_width: usize,
 }
 

@@ -13,6 +13,7 @@ use std::marker::Model;
 /// break. The last line has no break.
 #[derive(Drop)]
 pub struct Rope {
+    /// The whole text, with its breaks.
     text: String,
     /// The offset at which each line starts.
     starts: Vec<u32>,

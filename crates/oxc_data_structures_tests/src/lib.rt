@@ -199,6 +199,8 @@ fn a_stack_of_nothing_is_refused(rt: HostRuntime) -> Result<(), Fail> {
 fn a_stack_of_options(rt: HostRuntime) -> Result<(), Fail> {
     let mut stack = SparseStack::new(rt.alloc())?;
     stack.push(None)?;
+    stack.reserve_last()?;
+    assert!(rt; stack.filled_capacity() >= 1);
     assert_eq!(rt; *stack.last_or_init(|| 5)?, 5);
     assert_eq!(rt; (stack.len(), stack.filled_len()), (2, 1));
     assert_eq!(rt; *stack.last_or_init(|| 6)?, 5);
