@@ -10,7 +10,9 @@ use oxc_data_structures::code_buffer::{CodeBuffer, DEFAULT_INDENT_WIDTH, IndentC
 use oxc_data_structures::inline_string::{InlineString, UnsignedInt};
 use oxc_data_structures::rope::{Rope, get_line_column, get_offset_from_line_and_column};
 use oxc_data_structures::slice_iter::{SliceCursor, SliceCursorMut};
-use oxc_data_structures::stack::{CollectError, NonEmptyStack, SparseStack, Stack, TryFromVecError};
+use oxc_data_structures::stack::{
+    CollectError, NonEmptyStack, SparseStack, Stack, TryFromVecError,
+};
 use oxc_data_structures::str::const_str_eq;
 use std::alloc::{AllocError, Global};
 use std::test::Fail;
