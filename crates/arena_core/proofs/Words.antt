@@ -1,7 +1,8 @@
 -- The bits of words.
 use Rattle.std.proofs.Common.{◌≡◌, ◌≢◌, ℕ, zero, suc, ◌+◌, ◌-◌, ◌*◌, ◌/◌, ◌%◌, ◌^◌, ◌<◌, ◌≤◌, List, length, get_or, set, replicate, Bool, true, false, ◌==◌, nat_eq, refl, sym, ap, ◌∙◌, subst, arith, shr-shr, shr_lt, pow_mono, lt_of_lt_of_le, nat_lt, bit_or, bit_and, ltb-true, Some, eqb-true, eq-eqb, true≢false}
 use Rattle.std.specs.List.{slice_get}
-use Rattle.std.proofs.lemmas.Option.{slice_get-get_or, slice_get_within}
+use Rattle.std.proofs.Math.Nat.{pos_of_ne-zero}
+use Rattle.std.proofs.lemmas.Option.{same_Some, slice_get-get_or, slice_get_within}
 use Rattle.std.proofs.lemmas.Bool.Decides.{nat_tests}
 use Rattle.std.specs.Int.{bit_at, w64, trailing_zeros}
 use Rattle.std.proofs.lemmas.Nat.Bits.{bit_at-zero, bit_at_above, bit_at-trailing_zeros, shr_and_one, bit_at_set_same, bit_at_set_other}
@@ -23,10 +24,6 @@ bit_at-from word from i h =
 pub HasNoBitFrom-shr : (word from : ℕ) → word / 2 ^ from ≡ 0 → HasNoBitFrom word from
 HasNoBitFrom-shr word from e i h = bit_at-from word from i h ∙ ap (λ (n : ℕ). bit_at n (i - from)) e ∙ bit_at-zero (i - from)
 
-above_zero : (n : ℕ) → n ≢ 0 → 0 < n
-above_zero zero e = absurd (e refl)
-above_zero (suc n) e = omega arith
-
 within : (n k i : ℕ) → n < 2 ^ k → bit_at n i ≡ 1 → i < k
 within n k i h e = by_test (nat_lt i k) refl
   where
@@ -42,7 +39,7 @@ next_bit word from w f e =
     let rest : ℕ = word / 2 ^ from in
     let split : (64 - from) + from ≡ 64 = omega arith in
     let short : rest < 2 ^ (64 - from) = shr_lt (64 - from) from (subst (λ (n : ℕ). word < 2 ^ n) (sym split) w) in
-    let some : 0 < rest = above_zero rest e in
+    let some : 0 < rest = pos_of_ne-zero e in
     let wide : 2 ^ (64 - from) ≤ 2 ^ 64 = pow_mono {i = 64 - from} {j = 64} (omega arith) in
     let t = bit_at-trailing_zeros w64 rest some (lt_of_lt_of_le short wide) in
     let place : trailing_zeros w64 rest < 64 - from = within rest (64 - from) (trailing_zeros w64 rest) short t.1 in
@@ -89,10 +86,7 @@ has_bit-within words len i word h e =
     let test : nat_eq (bit_and (word / 2 ^ (i % 64)) 1) 1 ≡ bit_of words i = ap (λ (b : ℕ). nat_eq b 1) (shr_and_one word (i % 64)) ∙ ap (λ (w : ℕ). nat_eq (bit_at w (i % 64)) 1) e in
     let found : slice_get (flags words len) i ≡ Some (bit_of words i) =
     slice_get-get_or (flags words len) i false (omega (arith, length-flags words len)) ∙ ap Some (get_or-flags words len i false h) in
-    (λ t. found ∙ ap Some (sym test ∙ t), λ s. test ∙ some_same (sym found ∙ s))
-  where
-    some_same : {a b : Bool} → Some a ≡ Some b → a ≡ b
-    some_same e = cc
+    (λ t. found ∙ ap Some (sym test ∙ t), λ s. test ∙ same_Some _ _ (sym found ∙ s))
 
 pub has_bit-past : (words : List ℕ) (len i : ℕ) → len ≤ i
     → ((nat_lt i len ≡ true) → slice_get (flags words len) i ≡ Some true) × (slice_get (flags words len) i ≡ Some true → nat_lt i len ≡ true)

@@ -8,7 +8,7 @@ ghost use Rattle.arena_core.specs.Words.{flags, AreWordsOf, HasNoBitFrom, IsNext
 use std::alloc::{AllocError, Allocator};
 use std::marker::Model;
 
-/// How many numbers a word has bits for.
+// How many numbers a word has bits for.
 const WORD_BITS: usize = 64;
 
 /// A set of numbers below its length.
@@ -17,7 +17,9 @@ const WORD_BITS: usize = 64;
 /// is true.
 #[derive(Drop)]
 pub struct BitSet<A: Allocator> {
+    /// A bit for each number, the lowest first. Those past the length are 0.
     words: Vec<u64, A>,
+    /// The bound below which the members are.
     len: usize,
 }
 
@@ -87,7 +89,9 @@ impl<A: Allocator> BitSet<A> {
 /// The members of a [`BitSet`] in rising order, each once. Contracts see it as the list of those left.
 #[derive(Drop)]
 pub struct Ones<'s> {
+    /// The set's words.
     words: &'s [u64],
+    /// The set's length.
     len: usize,
     /// No number below this is left.
     at: usize,
@@ -105,7 +109,7 @@ impl<'s> Model for Ones<'s> {
     ghost invariant = { λ o. AreWordsOf o.words.now o.len × (o.at ≤ o.len) };
 }
 
-/// The place of the lowest set bit of a word that is at `from` or above.
+// The place of the lowest set bit of a word that is at `from` or above.
 fn next_in_word(word: u64, from: usize) -> Option<usize>
     requires { from < WORD_BITS }
     ensures { MatchOption result (HasNoBitFrom word from) (IsNextBit word from) }
@@ -118,7 +122,7 @@ fn next_in_word(word: u64, from: usize) -> Option<usize>
     }
 }
 
-/// The lowest member that is at least `at`.
+// The lowest member that is at least `at`.
 fn next_member(words: &[u64], len: usize, mut at: usize) -> Option<usize>
     requires words { AreWordsOf words.now len }
     requires within { at ≤ len }

@@ -42,7 +42,7 @@ bytes_append [] b p q = q
 bytes_append (c ∷ a) b p q = (p.0, bytes_append a b p.1 q)
 
 minus_byte : IsNumberByte 45
-minus_byte = let ne : 45 ≢ 44 = omega arith in inl (omega arith, omega arith, ne)
+minus_byte = let ne : ◌≢◌ {A = ℕ} 45 44 = omega arith in inl (omega arith, omega arith, ne)
 
 pub whole_bytes : (t : List ℕ) (n : ℤ) → IsWhole t n → AreNumberBytes t
 whole_bytes t (pos n) p = digits_bytes t (int_digits t p.0)

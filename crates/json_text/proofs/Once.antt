@@ -97,11 +97,11 @@ ends_after : (w : List ℕ) (k : ℕ) (z : List ℕ) → IsSpace w → IsLater k
 ends_after [] k z p m = λ b. grind arith
 ends_after (c ∷ w) k z p m = λ b. let s = p.0 in grind arith
 
-assoc3 : (w a b x : List ℕ) → (w ++ (a ++ b)) ++ x ≡ w ++ (a ++ (b ++ x))
-assoc3 w a b x = simp append_assoc
+pub append_assoc_three : (w a b x : List ℕ) → (w ++ (a ++ b)) ++ x ≡ w ++ (a ++ (b ++ x))
+append_assoc_three w a b x = simp append_assoc
 
-assoc5 : (w s c a b x : List ℕ) → (w ++ (s ++ (c ++ (a ++ b)))) ++ x ≡ w ++ (s ++ (c ++ (a ++ (b ++ x))))
-assoc5 w s c a b x = simp append_assoc
+append_assoc_five : (w s c a b x : List ℕ) → (w ++ (s ++ (c ++ (a ++ b)))) ++ x ≡ w ++ (s ++ (c ++ (a ++ (b ++ x))))
+append_assoc_five w s c a b x = simp append_assoc
 
 -- a later element, or the end, goes on with no byte of a number
 ends_comma : (w z : List ℕ) → IsBefore false w → Ends (w ++ z)
@@ -193,17 +193,17 @@ mutual
       let i : x ≡ y = cc in
       (refl, i)
   same_items no_items (item u ys) f a b x y (w, p, sp) (v, c, d, q, before, ru, ri) e =
-      let g : w ++ 93 ∷ x ≡ v ++ (c ++ (d ++ y)) = sym (append_assoc w (93 ∷ []) x) ∙ join a b _ _ x y p q e ∙ assoc3 v c d y in
+      let g : w ++ 93 ∷ x ≡ v ++ (c ++ (d ++ y)) = sym (append_assoc w (93 ∷ []) x) ∙ join a b _ _ x y p q e ∙ append_assoc_three v c d y in
       let s = starts u c ru in
       absurd (end_or_more 93 s.0 (s.1 ++ (d ++ y)) f w x v (c ++ (d ++ y)) (inl refl) sp before (ap (λ (t : List ℕ). t ++ (d ++ y)) s.2)
       (starts_big u s.0 s.3) (starts_other u s.0 93 s.3 (inl refl)) g)
   same_items (item u xs) no_items f a b x y (v, c, d, q, before, ru, ri) (w, p, sp) e =
-      let g : w ++ 93 ∷ y ≡ v ++ (c ++ (d ++ x)) = sym (append_assoc w (93 ∷ []) y) ∙ join b a _ _ y x p q (sym e) ∙ assoc3 v c d x in
+      let g : w ++ 93 ∷ y ≡ v ++ (c ++ (d ++ x)) = sym (append_assoc w (93 ∷ []) y) ∙ join b a _ _ y x p q (sym e) ∙ append_assoc_three v c d x in
       let s = starts u c ru in
       absurd (end_or_more 93 s.0 (s.1 ++ (d ++ x)) f w y v (c ++ (d ++ x)) (inl refl) sp before (ap (λ (t : List ℕ). t ++ (d ++ x)) s.2)
       (starts_big u s.0 s.3) (starts_other u s.0 93 s.3 (inl refl)) g)
   same_items (item u xs) (item v ys) f a b x y (w1, a1, b1, p, before1, ru, ri) (w2, a2, b2, q, before2, rv, rj) e =
-      let g : w1 ++ (a1 ++ (b1 ++ x)) ≡ w2 ++ (a2 ++ (b2 ++ y)) = sym (assoc3 w1 a1 b1 x) ∙ join a b _ _ x y p q e ∙ assoc3 w2 a2 b2 y in
+      let g : w1 ++ (a1 ++ (b1 ++ x)) ≡ w2 ++ (a2 ++ (b2 ++ y)) = sym (append_assoc_three w1 a1 b1 x) ∙ join a b _ _ x y p q e ∙ append_assoc_three w2 a2 b2 y in
       let h = skip_before f w1 w2 (a1 ++ (b1 ++ x)) (a2 ++ (b2 ++ y)) before1 before2 g (value_not_space u a1 (b1 ++ x) ru) (value_not_space v a2 (b2 ++ y) rv) in
       let r = same_value u v a1 a2 (b1 ++ x) (b2 ++ y) ru rv h (ends_items xs b1 x ri) (ends_items ys b2 y rj) in
       let t = same_items xs ys false b1 b2 x y ri rj r.1 in
@@ -219,16 +219,16 @@ mutual
       let i : x ≡ y = cc in
       (refl, i)
   same_members no_members (member k u ns) f a b x y (w, p, sp) (v, s, c, d, d2, q, before, str, colon, ru, rm) e =
-      let g : w ++ 125 ∷ x ≡ v ++ (s ++ (c ++ (d ++ (d2 ++ y)))) = sym (append_assoc w (125 ∷ []) x) ∙ join a b _ _ x y p q e ∙ assoc5 v s c d d2 y in
+      let g : w ++ 125 ∷ x ≡ v ++ (s ++ (c ++ (d ++ (d2 ++ y)))) = sym (append_assoc w (125 ∷ []) x) ∙ join a b _ _ x y p q e ∙ append_assoc_five v s c d d2 y in
       absurd (end_or_more 125 34 _ f w x v (s ++ (c ++ (d ++ (d2 ++ y)))) (inr refl) sp before (ap (λ (t : List ℕ). t ++ (c ++ (d ++ (d2 ++ y)))) str.1)
       (omega arith) quote_no_end g)
   same_members (member k u ms) no_members f a b x y (v, s, c, d, d2, q, before, str, colon, ru, rm) (w, p, sp) e =
-      let g : w ++ 125 ∷ y ≡ v ++ (s ++ (c ++ (d ++ (d2 ++ x)))) = sym (append_assoc w (125 ∷ []) y) ∙ join b a _ _ y x p q (sym e) ∙ assoc5 v s c d d2 x in
+      let g : w ++ 125 ∷ y ≡ v ++ (s ++ (c ++ (d ++ (d2 ++ x)))) = sym (append_assoc w (125 ∷ []) y) ∙ join b a _ _ y x p q (sym e) ∙ append_assoc_five v s c d d2 x in
       absurd (end_or_more 125 34 _ f w y v (s ++ (c ++ (d ++ (d2 ++ x)))) (inr refl) sp before (ap (λ (t : List ℕ). t ++ (c ++ (d ++ (d2 ++ x)))) str.1)
       (omega arith) quote_no_end g)
   same_members (member j u ms) (member k v ns) f a b x y (w1, s1, c1, a1, b1, p, before1, str1, colon1, ru, ri) (w2, s2, c2, a2, b2, q, before2, str2, colon2, rv, rj) e =
       let g : w1 ++ (s1 ++ (c1 ++ (a1 ++ (b1 ++ x)))) ≡ w2 ++ (s2 ++ (c2 ++ (a2 ++ (b2 ++ y)))) =
-      sym (assoc5 w1 s1 c1 a1 b1 x) ∙ join a b _ _ x y p q e ∙ assoc5 w2 s2 c2 a2 b2 y in
+      sym (append_assoc_five w1 s1 c1 a1 b1 x) ∙ join a b _ _ x y p q e ∙ append_assoc_five w2 s2 c2 a2 b2 y in
       let h = skip_before f w1 w2 _ _ before1 before2 g (value_not_space (string j) s1 (c1 ++ (a1 ++ (b1 ++ x))) str1) (value_not_space (string k) s2 (c2 ++ (a2 ++ (b2 ++ y))) str2) in
       let o = same_string s1 s2 (c1 ++ (a1 ++ (b1 ++ x))) (c2 ++ (a2 ++ (b2 ++ y))) j k str1 str2 h in
       let m = skip_colon c1 c2 _ _ colon1 colon2 o.1 (value_not_space u a1 (b1 ++ x) ru) (value_not_space v a2 (b2 ++ y) rv) in

@@ -1,6 +1,7 @@
 -- The text of code units reads as them.
-use Rattle.std.proofs.Common.{◌≡◌, ℕ, ◌<◌, ◌≤◌, ◌≢◌, ◌+◌, ◌*◌, ◌/◌, ◌%◌, ◌⊎◌, ⊎_elim, inl, inr, List, [], ◌∷◌, ◌++◌, Bool, true, false, nat_lt, nat_eq, Option, Some, None, flat_map, arith, sym, ap, ◌∙◌, refl, subst, append_assoc, append-nil, encode_utf8}
+use Rattle.std.proofs.Common.{◌≡◌, ℕ, ◌<◌, ◌≤◌, ◌≢◌, ◌+◌, ◌*◌, ◌/◌, ◌%◌, ◌⊎◌, ⊎_elim, inl, inr, List, [], ◌∷◌, ◌++◌, Bool, true, false, nat_lt, Option, Some, None, flat_map, arith, sym, ap, ◌∙◌, refl, subst, append_assoc, append-nil, encode_utf8}
 use Rattle.std.specs.Char.{IsScalar}
+use Rattle.std.proofs.lemmas.Bool.{cases_eq, cases_lt}
 use Rattle.std.proofs.lemmas.Bool.Decides.{nat_tests}
 use Rattle.json_text.specs.Strings.{hex_digit, unit_escape, char_text, is_lead, is_trail, joined, flush, trail_text, units_text, quoted_units}
 use Rattle.json_text.specs.Grammar.{Piece, char, short, hex, piece_text, ReadsPiece, ReadsPieces, IsHex, IsString}
@@ -44,20 +45,6 @@ escaped u h =
       ),
     )
 
-below : (c k : ℕ) → (c < k) ⊎ (k ≤ c)
-below c k = by_test (nat_lt c k) refl
-  where
-    by_test : (b : Bool) → nat_lt c k ≡ b → (c < k) ⊎ (k ≤ c)
-    by_test true e = inl (grind (arith, nat_tests))
-    by_test false e = inr (grind (arith, nat_tests))
-
-same : (c k : ℕ) → (c ≡ k) ⊎ (c ≢ k)
-same c k = by_test (nat_eq c k) refl
-  where
-    by_test : (b : Bool) → nat_eq c k ≡ b → (c ≡ k) ⊎ (c ≢ k)
-    by_test true e = inl (grind (arith, nat_tests))
-    by_test false e = inr (λ f. grind (arith, nat_tests))
-
 here : (c k : ℕ) → c ≡ k → OnePiece (char_text k) (k ∷ []) → OnePiece (char_text c) (c ∷ [])
 here c k e r = subst (λ (d : ℕ). OnePiece (char_text d) (d ∷ [])) (sym e) r
 
@@ -72,7 +59,7 @@ scalar_of c s h = ⊎_elim (λ (k : c < 55296). grind (arith, nat_tests)) (λ (k
 
 neither : (u : ℕ) → is_lead u ≡ false → is_trail u ≡ false → (u < 55296) ⊎ (57344 ≤ u)
 neither u e f = ⊎_elim (λ (k : u < 55296). inl k) (λ (k : 55296 ≤ u).
-    ⊎_elim (λ (l : u < 57344). absurd (surrogate u k l e f)) (λ (l : 57344 ≤ u). inr l) (below u 57344)) (below u 55296)
+    ⊎_elim (λ (l : u < 57344). absurd (surrogate u k l e f)) (λ (l : 57344 ≤ u). inr l) (cases_lt u 57344)) (cases_lt u 55296)
   where
     surrogate : (u : ℕ) → 55296 ≤ u → u < 57344 → is_lead u ≡ false → is_trail u ≡ false → ⊥
     surrogate u a b e f = grind (arith, nat_tests)
@@ -88,7 +75,7 @@ plain c s h =
     ⊎_elim (λ (e : c ≡ 13). here c 13 e (short 114, refl, inr (inr (inr (inr (inr (inl (refl, refl)))))))) (λ (n13 : c ≢ 13).
     ⊎_elim (λ (l : c < 32). subst (λ (t : List ℕ). OnePiece t (c ∷ [])) (sym (low_text c n34 n92 n8 n9 n10 n12 n13 l)) (escaped c h))
     (λ (l : 32 ≤ c). subst (λ (t : List ℕ). OnePiece t (c ∷ [])) (sym (high_text c n34 n92 l)) (char c, refl, (scalar_of c s h, l, n34, n92, (h, refl))))
-    (below c 32)) (same c 13)) (same c 12)) (same c 10)) (same c 9)) (same c 8)) (same c 92)) (same c 34)
+    (cases_lt c 32)) (cases_eq c 13)) (cases_eq c 12)) (cases_eq c 10)) (cases_eq c 9)) (cases_eq c 8)) (cases_eq c 92)) (cases_eq c 34)
 
 pair : (h t : ℕ) → 55296 ≤ h → h < 56320 → 56320 ≤ t → t < 57344 → OnePiece (encode_utf8 (joined h t)) (h ∷ t ∷ [])
 pair h t a b c d =

@@ -9,7 +9,7 @@ use Rattle.json_text.specs.Strings.{quoted_units}
 use Rattle.json_text.specs.Text.{text_of, items_text, members_text, before, closing}
 use Rattle.json_text.specs.Grammar.{ReadsValue, ReadsItems, ReadsMembers, IsSpace, IsBefore, IsWhole, Reads, IsInt, IsDigit, AreDigits, number_of}
 use Rattle.json_text.specs.HasText.{HasText, ItemsHaveText, MembersHaveText, IsShortNumber, TextReadsAlone}
-use Rattle.json_text.proofs.Once.{reads_once}
+use Rattle.json_text.proofs.Once.{append_assoc_three, reads_once}
 use Rattle.json_text.proofs.Pieces.{string_reads}
 
 spaces : (n : ℕ) → IsSpace (replicate n 32)
@@ -68,11 +68,8 @@ whole_reads : (n : ℤ) → IsShortNumber n → IsWhole (signed_decimal n) n
 whole_reads (pos n) h = let r = decimal_number (suc n) n (omega arith) h in (r.0, sym r.1)
 whole_reads (negsuc n) h = let r = decimal_number (suc (suc n)) (suc n) (omega arith) h in (refl, r.0, sym r.1)
 
-assoc3 : (w a b x : List ℕ) → (w ++ (a ++ b)) ++ x ≡ w ++ (a ++ (b ++ x))
-assoc3 w a b x = simp append_assoc
-
-assoc5 : (w s c a b x : List ℕ) → (w ++ ((s ++ c) ++ (a ++ b))) ++ x ≡ w ++ (s ++ (c ++ (a ++ (b ++ x))))
-assoc5 w s c a b x = simp append_assoc
+append_assoc_pairs : (w s c a b x : List ℕ) → (w ++ ((s ++ c) ++ (a ++ b))) ++ x ≡ w ++ (s ++ (c ++ (a ++ (b ++ x))))
+append_assoc_pairs w s c a b x = simp append_assoc
 
 mutual
   value_reads : (l : Layout) (v : Json) → HasText v → ReadsValue (text_of l v) v
@@ -91,7 +88,7 @@ mutual
     before b (deeper l),
     text_of (deeper l) x,
     items_text false l xs ++ 93 ∷ [],
-    assoc3 (before b (deeper l)) (text_of (deeper l) x) (items_text false l xs) (93 ∷ []),
+    append_assoc_three (before b (deeper l)) (text_of (deeper l) x) (items_text false l xs) (93 ∷ []),
     before_reads b (deeper l),
     value_reads (deeper l) x p.0,
     items_read false l xs p.1,
@@ -105,7 +102,7 @@ mutual
     58 ∷ space (deeper l),
     text_of (deeper l) x,
     members_text false l ms ++ 125 ∷ [],
-    assoc5 (before b (deeper l)) (quoted_units k) (58 ∷ space (deeper l)) (text_of (deeper l) x) (members_text false l ms) (125 ∷ []),
+    append_assoc_pairs (before b (deeper l)) (quoted_units k) (58 ∷ space (deeper l)) (text_of (deeper l) x) (members_text false l ms) (125 ∷ []),
     before_reads b (deeper l),
     string_reads k p.0,
     ([], space (deeper l), refl, tt, colon_space (deeper l)),

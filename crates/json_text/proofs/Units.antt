@@ -5,8 +5,9 @@ use Rattle.std.specs.Char.Escape.{encode_utf16}
 use Rattle.std.specs.Char.Utf16.{utf16_chars, has_unpaired_surrogate, lone_unit_char, surrogate_pair_char}
 use Rattle.std.specs.List.{list_any}
 use Rattle.std.specs.Str.{all_scalars}
-use Rattle.std.proofs.lemmas.Bool.{cases_lt}
-use Rattle.std.proofs.lemmas.Bool.Decides.{nat_tests}
+use Rattle.std.proofs.lemmas.Bool.{and_parts, cases_lt, not-true}
+use Rattle.std.proofs.lemmas.Bool.Decides.{Decides-like, nat_tests, same_from_decides}
+use Rattle.std.proofs.lemmas.Option.{cond_some, same_Some}
 use Rattle.std.proofs.lemmas.Slice.Eq.{bytes_eq-Decides}
 use Rattle.std.proofs.lemmas.Str.{IsUtf8-from_ascii, chars-encodes, chars-IsAscii, encodes-chars, scalars-chars, utf16_chars-nil, utf16_chars_lone, utf16_chars_pair}
 use Rattle.std.proofs.str.Utf16.{IsPair}
@@ -20,11 +21,11 @@ use Rattle.json_text.specs.Units.{units_of, bytes_of, text_of_units, are_code_un
 abbrev IsCharacter : ℕ → Type 0
 IsCharacter c = (c < 55296) ⊎ ((57344 ≤ c) × (c < 1114112))
 
-short_units : (c : ℕ) → c < 65536 → encode_utf16 c ≡ c ∷ []
-short_units c h = rw (lt-ltb c 65536 h)
+pub encode_utf16-short : (c : ℕ) → c < 65536 → encode_utf16 c ≡ c ∷ []
+encode_utf16-short c h = rw (lt-ltb c 65536 h)
 
-long_units : (c : ℕ) → 65536 ≤ c → encode_utf16 c ≡ (55296 + (c - 65536) / 1024) ∷ (56320 + (c - 65536) % 1024) ∷ []
-long_units c h = rw (le-ltb c 65536 h)
+pub encode_utf16-long : (c : ℕ) → 65536 ≤ c → encode_utf16 c ≡ (55296 + (c - 65536) / 1024) ∷ (56320 + (c - 65536) % 1024) ∷ []
+encode_utf16-long c h = rw (le-ltb c 65536 h)
 
 alone : (c : ℕ) → (c < 55296) ⊎ (57344 ≤ c) → lone_unit_char c ≡ Some c
 alone c s = ⊎_elim (λ (h : c < 55296). grind (arith, nat_tests)) (λ (h : 57344 ≤ c). grind (arith, nat_tests)) s
@@ -45,13 +46,13 @@ spells c us s = ⊎_elim short long (cases_lt c 65536)
     short : c < 65536 → utf16_chars (encode_utf16 c ++ us) ≡ Some c ∷ utf16_chars us
     short h =
         let low = no_surrogate c s in
-        rw (short_units c h) (utf16_chars_lone c us (λ p. not_in_pair c _ low p) ∙ ap (λ (o : Option ℕ). o ∷ utf16_chars us) (alone c low))
+        rw (encode_utf16-short c h) (utf16_chars_lone c us (λ p. not_in_pair c _ low p) ∙ ap (λ (o : Option ℕ). o ∷ utf16_chars us) (alone c low))
 
     long : 65536 ≤ c → utf16_chars (encode_utf16 c ++ us) ≡ Some c ∷ utf16_chars us
     long h =
         let top = below_top c s in
         let same : surrogate_pair_char (55296 + (c - 65536) / 1024) (56320 + (c - 65536) % 1024) ≡ c = omega arith in
-        rw (long_units c h)
+        rw (encode_utf16-long c h)
         (utf16_chars_pair _ _ us (omega arith, omega arith, omega arith, omega arith) ∙ ap (λ (d : ℕ). Some d ∷ utf16_chars us) same)
 
 AreCodeUnits-append : (us vs : List ℕ) → AreCodeUnits us → AreCodeUnits vs → AreCodeUnits (us ++ vs)
@@ -60,20 +61,16 @@ AreCodeUnits-append (u ∷ us) vs a b = (a.0, AreCodeUnits-append us vs a.1 b)
 
 AreCodeUnits-encode_utf16 : (c : ℕ) → IsCharacter c → AreCodeUnits (encode_utf16 c)
 AreCodeUnits-encode_utf16 c s = ⊎_elim
-    (λ (h : c < 65536). subst AreCodeUnits (sym (short_units c h)) (h, tt))
-    (λ (h : 65536 ≤ c). let top = below_top c s in subst AreCodeUnits (sym (long_units c h)) (omega arith, (omega arith, tt)))
+    (λ (h : c < 65536). subst AreCodeUnits (sym (encode_utf16-short c h)) (h, tt))
+    (λ (h : 65536 ≤ c). let top = below_top c s in subst AreCodeUnits (sym (encode_utf16-long c h)) (omega arith, (omega arith, tt)))
     (cases_lt c 65536)
 
 -- ---- all characters of a text
 
-both : (a b : Bool) → (a && b) ≡ true → (a ≡ true) × (b ≡ true)
-both true b e = (refl, e)
-both false b e = absurd (true≢false (sym e))
-
 spell_all : (cs : List ℕ) → all_scalars cs ≡ true → utf16_chars (flat_map encode_utf16 cs) ≡ map Some cs
 spell_all [] s = utf16_chars-nil
 spell_all (c ∷ cs) s =
-    let b = both _ (all_scalars cs) s in
+    let b = and_parts _ (all_scalars cs) s in
     spells c (flat_map encode_utf16 cs) (scalar_cases c b.0) ∙ ap (λ (os : List (Option ℕ)). Some c ∷ os) (spell_all cs b.1)
 
 pub are_code_units-AreCodeUnits : (us : List ℕ) → AreCodeUnits us → are_code_units us ≡ true
@@ -82,7 +79,7 @@ are_code_units-AreCodeUnits (u ∷ us) a = rw (lt-ltb u 65536 a.0) (are_code_uni
 
 pub AreCodeUnits-are_code_units : (us : List ℕ) → are_code_units us ≡ true → AreCodeUnits us
 AreCodeUnits-are_code_units [] e = tt
-AreCodeUnits-are_code_units (u ∷ us) e = let b = both (nat_lt u 65536) (are_code_units us) e in (ltb-true u 65536 b.0, AreCodeUnits-are_code_units us b.1)
+AreCodeUnits-are_code_units (u ∷ us) e = let b = and_parts (nat_lt u 65536) (are_code_units us) e in (ltb-true u 65536 b.0, AreCodeUnits-are_code_units us b.1)
 
 all_paired : (cs : List ℕ) → list_any (λ (o : Option ℕ). not (is_some o)) (map Some cs) ≡ false
 all_paired [] = refl
@@ -98,7 +95,7 @@ text_of_characters us cs a e = rw (are_code_units-AreCodeUnits us a, e, all_pair
 units_below : (cs : List ℕ) → all_scalars cs ≡ true → AreCodeUnits (flat_map encode_utf16 cs)
 units_below [] s = tt
 units_below (c ∷ cs) s =
-    let b = both _ (all_scalars cs) s in
+    let b = and_parts _ (all_scalars cs) s in
     AreCodeUnits-append (encode_utf16 c) (flat_map encode_utf16 cs) (AreCodeUnits-encode_utf16 c (scalar_cases c b.0)) (units_below cs b.1)
 
 pub AreCodeUnits-units_of : (bs : List ℕ) → IsUtf8 bs → AreCodeUnits (units_of bs)
@@ -109,35 +106,27 @@ pub text_of_units-units_of : (bs : List ℕ) → IsUtf8 bs → text_of_units (un
 text_of_units-units_of bs u =
     text_of_characters (units_of bs) (chars bs) (AreCodeUnits-units_of bs u) (spell_all (chars bs) (scalars-chars bs u)) ∙ ap Some (encodes-chars bs u)
 
-some_same : {A : Type 0} (a b : A) → Some a ≡ Some b → a ≡ b
-some_same a b e = cc
-
 -- two texts of the same code units are one
 pub units_of-injective : (a b : List ℕ) → IsUtf8 a → IsUtf8 b → units_of a ≡ units_of b → a ≡ b
 units_of-injective a b u v e =
-    some_same a b (sym (text_of_units-units_of a u) ∙ ap text_of_units e ∙ text_of_units-units_of b v)
+    same_Some a b (sym (text_of_units-units_of a u) ∙ ap text_of_units e ∙ text_of_units-units_of b v)
 
 ascii_units : (bs : List ℕ) → IsAscii bs → flat_map encode_utf16 bs ≡ bs
 ascii_units [] a = refl
 ascii_units (b ∷ bs) a =
     let low : b < 65536 = omega (arith, a 0) in
-    rw (short_units b low) (ap (λ (t : List ℕ). b ∷ t) (ascii_units bs (λ i. a (suc i))))
+    rw (encode_utf16-short b low) (ap (λ (t : List ℕ). b ∷ t) (ascii_units bs (λ i. a (suc i))))
 
 -- an ASCII text is its own code units
 pub units_of-IsAscii : (key : List ℕ) → IsAscii key → units_of key ≡ key
 units_of-IsAscii key a = rw (chars-IsAscii key a) (ascii_units key a)
 
-same_truth : (a b : Bool) → (a ≡ true → b ≡ true) → (b ≡ true → a ≡ true) → a ≡ b
-same_truth true true f g = refl
-same_truth true false f g = absurd (true≢false (sym (f refl)))
-same_truth false true f g = absurd (true≢false (sym (g refl)))
-same_truth false false f g = refl
-
 -- a text is compared with an ASCII word by its code units
 pub bytes_eq-units_of : (bs key : List ℕ) → IsUtf8 bs → IsAscii key → bytes_eq (units_of bs) key ≡ bytes_eq bs key
-bytes_eq-units_of bs key u a = same_truth _ _
-    (λ e. (bytes_eq-Decides bs key).1 (units_of-injective bs key u (IsUtf8-from_ascii key a) ((bytes_eq-Decides (units_of bs) key).0 e ∙ sym (units_of-IsAscii key a))))
-    (λ e. (bytes_eq-Decides (units_of bs) key).1 (ap units_of ((bytes_eq-Decides bs key).0 e) ∙ units_of-IsAscii key a))
+bytes_eq-units_of bs key u a = same_from_decides _ _
+    (Decides-like _ (λ (e : units_of bs ≡ key). units_of-injective bs key u (IsUtf8-from_ascii key a) (e ∙ sym (units_of-IsAscii key a)))
+    (λ (e : bs ≡ key). ap units_of e ∙ units_of-IsAscii key a) (bytes_eq-Decides (units_of bs) key))
+    (bytes_eq-Decides bs key)
 
 -- ---- from code units to a text
 
@@ -155,7 +144,7 @@ spells_pair u v us cs p s =
     let second : 56320 + (c - 65536) % 1024 ≡ v = omega arith in (
       utf16_chars_pair u v us p ∙ ap (λ (os : List (Option ℕ)). Some c ∷ os) s.0,
       rw (scalar, s.1) refl,
-      rw (long_units c long, first, second, s.2) refl,
+      rw (encode_utf16-long c long, first, second, s.2) refl,
     )
 
 spells_alone : (u : ℕ) (us cs : List ℕ) → u < 65536 → (u < 55296) ⊎ (57344 ≤ u) → Spells us cs → Spells (u ∷ us) (u ∷ cs)
@@ -163,7 +152,7 @@ spells_alone u us cs h l s =
     let scalar : IsScalar u = ⊎_elim (λ (k : u < 55296). grind (arith, nat_tests)) (λ (k : 57344 ≤ u). grind (arith, nat_tests)) l in (
       utf16_chars_lone u us (λ p. not_in_pair u _ l p) ∙ ap₂ (λ (o : Option ℕ) (os : List (Option ℕ)). o ∷ os) (alone u l) s.0,
       rw (scalar, s.1) refl,
-      rw (short_units u h, s.2) refl,
+      rw (encode_utf16-short u h, s.2) refl,
     )
 
 -- a surrogate that is in no pair
@@ -224,9 +213,10 @@ spelled (u ∷ v ∷ us) a n =
     (unit_kind u v)
 
 text_from : (a b : Bool) (t bs : List ℕ) → (if a && not b then Some t else None) ≡ Some bs → (a ≡ true) × (b ≡ false) × (t ≡ bs)
-text_from false b t bs e = absurd (cc)
-text_from true true t bs e = absurd (cc)
-text_from true false t bs e = (refl, refl, cc)
+text_from a b t bs e =
+    let some = cond_some (a && not b) t bs e in
+    let tests = and_parts a (not b) some.0 in
+    (tests.0, not-true b tests.1, some.1)
 
 -- what has a text is of code units
 pub AreCodeUnits-text_of_units : (us bs : List ℕ) → text_of_units us ≡ Some bs → AreCodeUnits us
@@ -239,7 +229,7 @@ spelled_text us bs e =
     let f = text_from (are_code_units us) (has_unpaired_surrogate us) (bytes_of (utf16_chars us)) bs e in
     let a = AreCodeUnits-are_code_units us f.0 in
     let s = spelled us a f.1 in
-    (s.0, s.1, some_same _ _ (sym (text_of_characters us s.0 a s.1.0) ∙ e))
+    (s.0, s.1, same_Some _ _ (sym (text_of_characters us s.0 a s.1.0) ∙ e))
 
 -- code units in which no surrogate stands alone are a text
 pub IsUtf8-text_of_units : (us bs : List ℕ) → text_of_units us ≡ Some bs → IsUtf8 bs

@@ -1,12 +1,12 @@
 -- How the parts of a `SparseStack` follow its entries.
-use Rattle.std.proofs.Common.{◌≡◌, ℕ, suc, ◌-◌, ◌<◌, Bool, true, false, cond, List, [], ◌∷◌, ◌++◌, length, get_or, set, map, Option, Some, None, refl, sym, ap, ◌∙◌, arith}
+use Rattle.std.proofs.Common.{◌≡◌, ℕ, suc, ◌-◌, ◌<◌, Bool, true, false, cond, List, [], ◌∷◌, ◌++◌, length, get_or, set, map, Option, Some, None, refl, sym, ap, ◌∙◌, subst, arith}
 use Rattle.std.proofs.lemmas.List.{length-append, length-map, length-set, map-append, same_from_push, append-nil, get_or_read, get_or-set_same, set-get_or, set-set}
 use Rattle.std.proofs.lemmas.List.Elements.{filter_map-append}
 use Rattle.std.proofs.lemmas.Option.{slice_get_read}
 use Rattle.std.specs.Prelude.{slice_get, is_some}
 use Rattle.std.specs.Option.{option_to_list}
 use Rattle.oxc_data_structures.proofs.ListLemmas.{get_or-at_last, get_or-last, slice_get-last, set-last, split_last}
-use Rattle.oxc_data_structures.specs.SparseStack.{Entries, FillsTop, IsStored, entries_of, filled_values, top, with_top}
+use Rattle.oxc_data_structures.specs.SparseStack.{Becomes, Entries, FillsTop, IsKeptOrMade, IsStored, entries_of, filled_values, top, with_top}
 
 module _ {T : Type 0} where
   -- the marks and the values are those of these entries
@@ -284,6 +284,18 @@ module _ {T : Type 0} where
       filled_capacity = omega arith;
     };
     value_is = rw e refl;
+  }
+
+  -- filled after room was made
+  pub FillsTop-after_room : (old roomy new : Entries T) (made : T → Type 0) (value : T) → Becomes old roomy old.items
+      → FillsTop roomy new made value → FillsTop old new made value
+  FillsTop-after_room old roomy new made value b f = record {
+    becomes = record {
+      entries = f.becomes.entries ∙ ap (λ items. set items (length items - 1) (Some value)) b.entries;
+      total_capacity = omega (arith, b.total_capacity, f.becomes.total_capacity);
+      filled_capacity = omega (arith, b.filled_capacity, f.becomes.filled_capacity);
+    };
+    value_is = subst (λ items. IsKeptOrMade (get_or items (length items - 1) None) made value) b.entries f.value_is;
   }
 
   -- the other way round

@@ -1,6 +1,7 @@
 -- What a `SparseStack` is to a contract.
 use Rattle.std.specs.Prelude.{◌≡◌, ℕ, ◌<◌, ◌≤◌, Bool, true, false, List, [], ◌∷◌, ◌++◌, ◌-◌, length, take, drop, map, slice_index_or, slice_set, MatchOption, Option, Some, None, is_some}
 use Rattle.std.specs.List.{filter_map}
+use Rattle.std.specs.Option.{ForNone}
 
 -- its entries, the top one last, and how many entries and how many filled ones it has room for
 pub record Entries (T : Type 0) : Type 0 where
@@ -37,6 +38,10 @@ pub record FillsTop {T : Type 0} (old new : Entries T) (made : T → Type 0) (va
 -- the values of the filled entries, in order
 abbrev pub filled_values : {T : Type 0} → List (Option T) → List T
 filled_values items = filter_map (λ entry. entry) items
+
+-- the top entry is filled, or there is room for its value
+abbrev pub HasRoomOnTop : {T : Type 0} → Entries T → Type 0
+HasRoomOnTop s = ForNone (top s) (length (filled_values s.items) < s.filled_capacity)
 
 -- the entries, by which of them are filled and the values of those
 abbrev pub entries_of : {T : Type 0} → List Bool → List T → List (Option T)

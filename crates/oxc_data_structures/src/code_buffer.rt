@@ -26,7 +26,7 @@ pub enum IndentChar {
 impl IndentChar {
     ghost use Rattle.oxc_data_structures.specs.CodeBuffer.{indent_byte};
 
-    /// The character, which is ASCII.
+    // The character, which is ASCII.
     fn byte(self) -> u8
         ensures byte { result ≡ indent_byte self }
         ensures ascii { result < 128 }
@@ -50,8 +50,11 @@ pub fn indent_chars_are_equal_exactly(a: IndentChar, b: IndentChar)
 /// A print that is refused for want of memory leaves the buffer as it was.
 #[derive(Drop)]
 pub struct CodeBuffer {
+    /// What was printed so far.
     text: String,
+    /// What an indent is made of.
     indent_char: IndentChar,
+    /// How many of them one level of indent has.
     indent_width: usize,
 }
 
@@ -286,7 +289,7 @@ impl CodeBuffer {
     }
 }
 
-/// Appends an ASCII byte `count` times, or not at all.
+// Appends an ASCII byte `count` times, or not at all.
 fn push_times(text: &mut String, byte: u8, count: usize) -> Result<(), AllocError>
     requires { byte < 128 }
     ensures ok { OnOk result (string_bytes text.new ≡ string_bytes text.old ++ replicate count byte) }

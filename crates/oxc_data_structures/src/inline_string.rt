@@ -198,7 +198,9 @@ impl UnsignedInt for usize {
 /// `CAPACITY` is the greatest length of the text, and `Len` the type in which its length is kept.
 /// `Len` counts up to `CAPACITY` at least.
 pub struct InlineString<const CAPACITY: usize, Len: UnsignedInt> {
+    /// The text, with zeros behind it.
     bytes: [u8; CAPACITY],
+    /// How many of the bytes are the text.
     len: Len,
 }
 

@@ -8,5 +8,3 @@ pub mod rope;
 pub mod slice_iter;
 pub mod stack;
 pub mod str;
-#[cfg(test)]
-mod tests;

@@ -13,6 +13,7 @@ use std::marker::Model;
 /// break. The last line has no break.
 #[derive(Drop)]
 pub struct Rope {
+    /// The whole text, with its breaks.
     text: String,
     /// The offset at which each line starts.
     starts: Vec<u32>,
@@ -48,7 +49,7 @@ impl Rope {
         self.starts.len()
     }
 
-    /// The line of an offset.
+    // The line of an offset.
     fn line_at(&self, offset: u32) -> usize
         ensures line { result ≡ line_of self.now offset }
         ensures in_range { result < length (line_starts self.now) }
@@ -61,7 +62,7 @@ impl Rope {
         started - 1
     }
 
-    /// The offset at which a line starts.
+    // The offset at which a line starts.
     fn start_of(&self, line: usize) -> u32
         requires { line < length (line_starts self.now) }
         ensures { result ≡ line_start self.now line }
@@ -69,7 +70,7 @@ impl Rope {
         self.starts[line]
     }
 
-    /// The offset at which a line ends, its break included.
+    // The offset at which a line ends, its break included.
     fn end_of(&self, line: usize) -> usize
         requires { line < length (line_starts self.now) }
         ensures { result ≡ line_end self.now line }
@@ -80,7 +81,7 @@ impl Rope {
         }
     }
 
-    /// The text of a line, its break included.
+    // The text of a line, its break included.
     fn text_of(&self, line: usize) -> &str
         requires { line < length (line_starts self.now) }
         ensures text { result.now ≡ line_text self.now line }
@@ -127,7 +128,7 @@ pub fn offset_is_found_again()
     ensures { OffsetIsFoundAgain }
 {}
 
-/// How many UTF-16 code units a text takes.
+// How many UTF-16 code units a text takes.
 fn count_units(text: &str) -> u32
     requires { length text.now < 2 ^ 32 }
     ensures { result ≡ units_of text.now }
@@ -140,8 +141,8 @@ fn count_units(text: &str) -> u32
     units
 }
 
-/// The length in bytes of the longest beginning of a text that takes at most so many UTF-16 code
-/// units.
+// The length in bytes of the longest beginning of a text that takes at most so many UTF-16 code
+// units.
 fn fitting_len(text: &str, units: u32) -> u32
     requires { length text.now < 2 ^ 32 }
     ensures { IsFittingLen text.now units result }
@@ -160,7 +161,7 @@ fn fitting_len(text: &str, units: u32) -> u32
     len
 }
 
-/// The offsets at which the lines of a text start.
+// The offsets at which the lines of a text start.
 fn find_line_starts(alloc: Global, text: &str) -> Result<Vec<u32>, AllocError>
     requires { length text.now < 2 ^ 32 }
     ensures { IfOk result (λ starts. starts.items ≡ line_starts text.now) }
@@ -177,14 +178,14 @@ fn find_line_starts(alloc: Global, text: &str) -> Result<Vec<u32>, AllocError>
     Ok(starts)
 }
 
-/// Whether a line ends behind a character that `rest` follows.
+// Whether a line ends behind a character that `rest` follows.
 fn is_end_of_line(ch: char, rest: &str) -> bool
     ensures { result ≡ ends_line ch (chars rest.now) }
 {
     is_break(ch) && !(ch == '\r' && rest.chars().next() == Some('\n'))
 }
 
-/// Whether a character is a line break, or the first part of one.
+// Whether a character is a line break, or the first part of one.
 fn is_break(ch: char) -> bool
     ensures { result ≡ is_line_break ch }
 {

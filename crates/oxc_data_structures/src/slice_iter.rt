@@ -10,6 +10,7 @@ use std::marker::Model;
 /// A cursor over a slice: what is left of it.
 #[derive(Drop)]
 pub struct SliceCursor<'s, T> {
+    /// The entries that are left.
     rest: &'s [T],
 }
 
@@ -90,7 +91,8 @@ impl<'s, T> SliceCursor<'s, T> {
     }
 }
 
-/// How many entries a cursor has passed.
+// How many entries a cursor has passed.
+//
 // A model makes the prover follow what the struct around it lends out of its slice.
 #[derive(Drop)]
 struct Passed {
@@ -119,7 +121,9 @@ impl Passed {
 /// cursor is gone.
 #[derive(Drop)]
 pub struct SliceCursorMut<'s, T> {
+    /// All entries, with those that were passed.
     slice: &'s mut [T],
+    /// How many of them were passed.
     passed: Passed,
 }
 
@@ -219,7 +223,7 @@ impl<'s, T> SliceCursorMut<'s, T> {
         self.end_mut(start)
     }
 
-    /// Where the entries that are left start.
+    // Where the entries that are left start.
     fn start(&self) -> usize
         ensures { result ≡ min self.now.passed (length self.now.slice.now) }
     {

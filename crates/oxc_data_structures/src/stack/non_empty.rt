@@ -38,6 +38,7 @@ pub enum CollectError {
 /// A push that is refused for want of memory leaves the stack as it was.
 #[derive(Drop)]
 pub struct NonEmptyStack<T> {
+    /// The entries, the top one last.
     items: Vec<T>,
 }
 

@@ -2,7 +2,7 @@
 
 ghost use Rattle.std.specs.Prelude.{◌≡◌, ◌<◌, ◌≤◌, ◌-◌, ◌++◌, ◌∷◌, ◌↔◌, [], length, slice_get, slice_set, IfOk, IsOk, IsSome, IsTrue, OnErr, OnOk, Some, None};
 ghost use Rattle.std.specs.Borrow.{sem};
-ghost use Rattle.std.specs.Option.{option_copied, option_copied_mut};
+ghost use Rattle.std.specs.Option.{ForNone, option_copied, option_copied_mut};
 
 use std::alloc::{AllocError, Global};
 use std::marker::Model;
@@ -37,7 +37,7 @@ impl<T> Model for SparseStack<T> {
 }
 
 impl<T> SparseStack<T> {
-    ghost use Rattle.oxc_data_structures.specs.SparseStack.{Becomes, FillsTop, IsKeptOrMade, bottom, filled_values, top, with_top};
+    ghost use Rattle.oxc_data_structures.specs.SparseStack.{Becomes, FillsTop, HasRoomOnTop, IsKeptOrMade, bottom, filled_values, top, with_top};
     ghost use Rattle.oxc_data_structures.specs.SparseStackLends.{FillsTopAs, LendsEntry, LendsTop, LendsValues};
 
     /// A stack of one entry, which is `None`.
@@ -168,55 +168,72 @@ impl<T> SparseStack<T> {
         }
     }
 
+    /// Makes room for the top entry's value where that entry is `None`.
+    ///
+    /// After it, [`last_or_init`](Self::last_or_init) and
+    /// [`last_mut_or_init`](Self::last_mut_or_init) are Ok.
+    pub fn reserve_last(&mut self) -> Result<(), AllocError>
+        ensures room { OnOk result (HasRoomOnTop self.new) }
+        ensures entries { Becomes self.old self.new self.old.items }
+        ensures succeeds { HasRoomOnTop self.old → IsOk result }
+    {
+        if !self.has_values[self.has_values.len() - 1] {
+            self.values.reserve(1)?;
+        }
+        Ok(())
+    }
+
     /// The top entry's value, which `init` makes first where that entry is `None`.
     ///
-    /// It makes room first: where that is refused, `init` isn't called.
+    /// It makes room before it calls `init`: where that is refused, `init` isn't called.
     pub fn last_or_init<I: FnOnce() -> T>(&mut self, init: I) -> Result<&T, AllocError>
     where
         T: Drop,
         I: Drop,
-        requires { I.IsAlwaysCallable init }
+        requires { ForNone (top self.old) (I.pre init) }
         ensures* fills { sem 𝓛 (FillsTopAs T.row self.entry (I.post init) result) }
         ensures value { IfOk result (λ x. IsKeptOrMade (top self.old) (I.post init) x.now) }
+        ensures succeeds { HasRoomOnTop self.old → IsOk result }
     {
-        self.fill_last(init)?;
+        self.reserve_last()?;
+        self.fill_last(init);
         let last = self.values.len() - 1;
         Ok(&self.values[last])
     }
 
     /// The top entry's value, to be changed, which `init` makes first where that entry is `None`.
     ///
-    /// It makes room first: where that is refused, `init` isn't called.
+    /// It makes room before it calls `init`: where that is refused, `init` isn't called.
     pub fn last_mut_or_init<I: FnOnce() -> T>(&mut self, init: I) -> Result<&mut T, AllocError>
     where
         T: Drop,
         I: Drop,
-        requires { I.IsAlwaysCallable init }
+        requires { ForNone (top self.old) (I.pre init) }
         ensures* writes_back { sem 𝓛 (LendsTop T.row self.entry result) }
         ensures value { IfOk result (λ x. IsKeptOrMade (top self.old) (I.post init) x.now) }
+        ensures succeeds { HasRoomOnTop self.old → IsOk result }
     {
-        self.fill_last(init)?;
+        self.reserve_last()?;
+        self.fill_last(init);
         let last = self.values.len() - 1;
         Ok(&mut self.values[last])
     }
 
-    /// Fills the top entry by `init` where it is `None`, with room made first.
-    fn fill_last<I: FnOnce() -> T>(&mut self, init: I) -> Result<(), AllocError>
+    // Fills the top entry by `init` where it is `None`, with room for it.
+    fn fill_last<I: FnOnce() -> T>(&mut self, init: I)
     where
         T: Drop,
         I: Drop,
-        requires { I.IsAlwaysCallable init }
-        ensures ok { OnOk result ((value : T) × FillsTop self.old self.new (I.post init) value) }
-        ensures err { OnErr result (Becomes self.old self.new self.old.items) }
+        requires room { HasRoomOnTop self.old }
+        requires callable { ForNone (top self.old) (I.pre init) }
+        ensures { (value : T) × FillsTop self.old self.new (I.post init) value }
     {
         let last = self.has_values.len() - 1;
         if self.has_values[last] {
-            return Ok(());
+            return;
         }
-        self.values.reserve(1)?;
         self.values.push_reserved(init());
         self.has_values[last] = true;
-        Ok(())
     }
 
     /// How many entries it has.

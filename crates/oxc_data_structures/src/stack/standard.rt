@@ -14,6 +14,7 @@ use std::marker::Model;
 /// A push that is refused for want of memory leaves the stack as it was.
 #[derive(Drop)]
 pub struct Stack<T> {
+    /// The entries, the top one last.
     items: Vec<T>,
 }
 

@@ -1,18 +1,23 @@
-//! Each public call with ample memory, by values from outside.
+//! Tests of `oxc_data_structures`: each public call with ample memory, by values from outside.
+//!
+//! They stand in a crate of their own, since a crate with tests is proved a second time with them.
+#![tactic(auto)]
 
 ghost use Rattle.std.specs.Prelude.{◌≡◌, ◌≤◌, length, slice_set};
 
-use crate::branch_hints::{likely, unlikely};
-use crate::code_buffer::{CodeBuffer, DEFAULT_INDENT_WIDTH, IndentChar};
-use crate::inline_string::{InlineString, UnsignedInt};
-use crate::rope::{Rope, get_line_column, get_offset_from_line_and_column};
-use crate::slice_iter::{SliceCursor, SliceCursorMut};
-use crate::stack::{CollectError, NonEmptyStack, SparseStack, Stack, TryFromVecError};
-use crate::str::const_str_eq;
+use oxc_data_structures::branch_hints::{likely, unlikely};
+use oxc_data_structures::code_buffer::{CodeBuffer, DEFAULT_INDENT_WIDTH, IndentChar};
+use oxc_data_structures::inline_string::{InlineString, UnsignedInt};
+use oxc_data_structures::rope::{Rope, get_line_column, get_offset_from_line_and_column};
+use oxc_data_structures::slice_iter::{SliceCursor, SliceCursorMut};
+use oxc_data_structures::stack::{
+    CollectError, NonEmptyStack, SparseStack, Stack, TryFromVecError,
+};
+use oxc_data_structures::str::const_str_eq;
 use std::alloc::{AllocError, Global};
 use std::test::Fail;
 
-/// A buffer after each of its prints.
+// A buffer after each of its prints.
 fn printed(alloc: Global) -> Result<CodeBuffer, AllocError> {
     let mut buffer = CodeBuffer::with_indent(alloc, IndentChar::Space, 2);
     buffer.print_ascii_byte(b'f')?;
@@ -196,6 +201,8 @@ fn a_stack_of_nothing_is_refused(rt: HostRuntime) -> Result<(), Fail> {
 fn a_stack_of_options(rt: HostRuntime) -> Result<(), Fail> {
     let mut stack = SparseStack::new(rt.alloc())?;
     stack.push(None)?;
+    stack.reserve_last()?;
+    assert!(rt; stack.filled_capacity() >= 1);
     assert_eq!(rt; *stack.last_or_init(|| 5)?, 5);
     assert_eq!(rt; (stack.len(), stack.filled_len()), (2, 1));
     assert_eq!(rt; *stack.last_or_init(|| 6)?, 5);
@@ -338,7 +345,7 @@ fn a_mutable_cursor_writes_to_its_slice(rt: HostRuntime) {
     assert_eq!(rt; entries, [10, 2, 30, 40, 5]);
 }
 
-/// What a caller learns: writes through a cursor are writes to its slice.
+// What a caller learns: writes through a cursor are writes to its slice.
 fn set_first_and_third(slice: &mut [u8], first: u8, third: u8)
     requires { 3 ≤ length slice.old }
     ensures { slice.new ≡ slice_set (slice_set slice.old 0 first) 2 third }
