@@ -1,24 +1,11 @@
 -- The text of a text's code units is its characters', each escaped where it has to be.
-use Rattle.std.proofs.Common.{◌≡◌, ℕ, suc, ◌+◌, ◌-◌, ◌*◌, ◌/◌, ◌%◌, ◌<◌, ◌≤◌, ◌⊎◌, ⊎_elim, inl, inr, ◌&&◌, List, [], ◌∷◌, ◌++◌, Bool, true, false, nat_lt, flat_map, map, ap, ◌∙◌, sym, refl, arith, None, encode_utf8, append_assoc, length, get_or, take, drop}
+use Rattle.std.proofs.Common.{◌≡◌, ℕ, ◌+◌, ◌-◌, ◌*◌, ◌/◌, ◌%◌, ◌<◌, ◌≤◌, ◌⊎◌, ⊎_elim, inl, inr, List, [], ◌∷◌, ◌++◌, true, false, flat_map, ap, ◌∙◌, sym, refl, arith, None, encode_utf8}
+use Rattle.std.proofs.lemmas.Bool.{and_parts, cases_lt}
 use Rattle.std.proofs.lemmas.Bool.Decides.{nat_tests}
 use Rattle.std.proofs.Math.Utf8.{scalar, scalars}
-use Rattle.std.proofs.Math.Seq.{drop-cons}
-use Rattle.std.proofs.lemmas.List.{take-append-drop}
-use Rattle.std.proofs.lemmas.List.Concat.{flat_map-append}
 use Rattle.std.specs.Char.Escape.{encode_utf16}
-use Rattle.json_text.specs.Strings.{is_lead, is_trail, units_text, char_text, joined, quoted_units}
+use Rattle.json_text.specs.Strings.{is_lead, is_trail, units_text, char_text, joined}
 use lib.Utf8.{scalar_cases}
-
-and_both : (a b : Bool) → (a && b) ≡ true → (a ≡ true) × (b ≡ true)
-and_both true b e = (refl, e)
-and_both false b e = absurd (cc e)
-
-below_or_above : (c : ℕ) → (c < 65536) ⊎ (65536 ≤ c)
-below_or_above c = by_test (nat_lt c 65536) refl
-  where
-    by_test : (b : Bool) → nat_lt c 65536 ≡ b → (c < 65536) ⊎ (65536 ≤ c)
-    by_test true e = inl (grind (arith, nat_tests))
-    by_test false e = inr (grind (arith, nat_tests))
 
 pub no_lead : (c : ℕ) → (c < 55296) ⊎ (56320 ≤ c) → is_lead c ≡ false
 no_lead c h = grind (arith, nat_tests)
@@ -73,31 +60,8 @@ high_case c us cs s h e =
 pub units_text-chars : (cs : List ℕ) → scalars cs ≡ true → units_text None (flat_map encode_utf16 cs) ≡ flat_map char_text cs
 units_text-chars [] e = refl
 units_text-chars (c ∷ cs) e =
-    let s = and_both (scalar c) (scalars cs) e in
+    let s = and_parts (scalar c) (scalars cs) e in
     let k = scalar_cases c s.0 in
     let below : c < 1114112 = ⊎_elim (λ (h : c < 55296). omega arith) (λ (h : (57344 ≤ c) × (c < 1114112)). h.1) k in
     let i = units_text-chars cs s.1 in
-    ⊎_elim (λ (h : c < 65536). low_case c (flat_map encode_utf16 cs) cs k h i) (λ (h : 65536 ≤ c). high_case c (flat_map encode_utf16 cs) cs below h i) (below_or_above c)
-
-same_map : (xs : List ℕ) → map (λ x. x) xs ≡ xs
-same_map [] = refl
-same_map (x ∷ xs) = ap (λ (t : List ℕ). x ∷ t) (same_map xs)
-
--- the text of a string of which some characters were written, and then the character c
-pub quoted_at : (cs xs us : List ℕ) (c : ℕ) → units_text None us ≡ flat_map char_text cs → map (λ x. x) xs ≡ take (length xs) cs →
-    (length xs < length cs) × (c ≡ get_or cs (length xs) c) →
-    quoted_units us ≡ (34 ∷ flat_map char_text xs) ++ (char_text c ++ (flat_map char_text (drop (suc (length xs)) cs) ++ 34 ∷ []))
-quoted_at cs xs us c u t h =
-    let n = length xs in
-    let rest = drop (suc n) cs in
-    let whole : cs ≡ xs ++ c ∷ rest =
-    sym (take-append-drop n cs) ∙ ap (λ (a : List ℕ). a ++ drop n cs) (sym t ∙ same_map xs)
-    ∙ ap (λ (a : List ℕ). xs ++ a) (drop-cons cs n c h.0 ∙ ap (λ (d : ℕ). d ∷ rest) (sym h.1)) in
-    ap (λ (a : List ℕ). 34 ∷ (a ++ 34 ∷ [])) (u ∙ ap (flat_map char_text) whole ∙ flat_map-append char_text xs (c ∷ rest))
-    ∙ ap (λ (a : List ℕ). 34 ∷ a) (append_assoc (flat_map char_text xs) (char_text c ++ flat_map char_text rest) (34 ∷ [])
-    ∙ ap (λ (a : List ℕ). flat_map char_text xs ++ a) (append_assoc (char_text c) (flat_map char_text rest) (34 ∷ [])))
-
--- the text of a string of which all characters were written
-pub quoted_end : (cs xs us : List ℕ) → units_text None us ≡ flat_map char_text cs → map (λ x. x) xs ≡ cs →
-    quoted_units us ≡ (34 ∷ flat_map char_text xs) ++ 34 ∷ []
-quoted_end cs xs us u m = ap (λ (a : List ℕ). 34 ∷ (a ++ 34 ∷ [])) (u ∙ ap (flat_map char_text) (sym m ∙ same_map xs))
+    ⊎_elim (λ (h : c < 65536). low_case c (flat_map encode_utf16 cs) cs k h i) (λ (h : 65536 ≤ c). high_case c (flat_map encode_utf16 cs) cs below h i) (cases_lt c 65536)

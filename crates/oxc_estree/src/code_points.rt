@@ -13,7 +13,8 @@ use crate::strings::{print_text_char, print_unit_escape};
 use crate::{ESTree, Serializer};
 use oxc_data_structures::code_buffer::CodeBuffer;
 use std::alloc::AllocError;
-use std::iter::Copied;
+use std::array;
+use std::iter::{Cloned, Copied};
 use std::slice::Iter;
 
 /// An iterator that always gives the same code points, as its clones do.
@@ -46,6 +47,40 @@ impl<'a> CodePoints for Copied<Iter<'a, u32>> {
     } };
 
     ghost clones_alike = { λ _ _ e. e };
+}
+
+impl<'a> CodePoints for Cloned<Iter<'a, u32>> {
+    ghost use Rattle.std.specs.Prelude.{refl};
+    ghost use Rattle.std.specs.Slice.Iter.{iter_rest};
+    ghost use Rattle.std.specs.Iterator.Adapters.{cloned_source};
+    ghost use Rattle.std.proofs.lemmas.Iterator.{YieldsList-from_slice};
+    ghost use Rattle.std.proofs.lemmas.Iterator.Adapters.{YieldsList-from_cloned};
+
+    ghost code_points = { λ s. iter_rest (cloned_source s) };
+
+    ghost gives_these = { λ s. record {
+      can_next = (tt, λ _. tt);
+      ends = tt;
+      yields = (YieldsList-from_cloned _ _ (λ _ _ e. e) (YieldsList-from_slice (iter_rest (cloned_source s)) refl)).runs;
+    } };
+
+    ghost clones_alike = { λ _ _ e. e };
+}
+
+impl<const N: usize> CodePoints for array::IntoIter<u32, N> {
+    ghost use Rattle.std.specs.Array.Iter.{array_into_iter_items, array_steps};
+    ghost use Rattle.std.specs.List.{each_same};
+    ghost use Rattle.std.proofs.lemmas.Iterator.Consumers.{YieldsList-from_shown};
+
+    ghost code_points = { λ s. array_into_iter_items s };
+
+    ghost gives_these = { λ s. record {
+      can_next = tt;
+      ends = tt;
+      yields = (YieldsList-from_shown (array_steps {A = ℕ} {n = N}) (λ x. x) array_into_iter_items (λ _ _ e. e.0) (λ _ _ _ e. e) s).runs;
+    } };
+
+    ghost clones_alike = { λ _ _ e. each_same _ _ e };
 }
 
 /// A string that is given as code points, which may be surrogates.
@@ -83,8 +118,8 @@ fn print_code_points<I: CodePoints>(
     buffer.print_ascii_byte(b'"')
 }
 
-/// Appends a code point after a lead surrogate that was not printed yet, and answers the one that is
-/// to be printed with what comes next.
+// Appends a code point after a lead surrogate that was not printed yet, and answers the one that is
+// to be printed with what comes next.
 fn print_code_point(
     buffer: &mut CodeBuffer,
     lead: Option<u32>,
@@ -142,7 +177,7 @@ fn is_trail(code_point: u32) -> bool
     (0xdc00..0xe000).contains(&code_point)
 }
 
-/// The character of a lead surrogate and a trail surrogate.
+// The character of a lead surrogate and a trail surrogate.
 fn join(lead: u32, trail: u32) -> char
     requires lead { IsTrue (is_lead lead) }
     requires trail { IsTrue (is_trail trail) }

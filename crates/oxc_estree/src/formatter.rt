@@ -12,7 +12,7 @@ use std::alloc::AllocError;
 ///
 /// A formatter is compact and appends nothing, or it knows how many structs and lists stand open
 /// and appends a line feed and two spaces for each of them. A call that is refused for want of
-/// memory has appended a first part of what it was to append.
+/// memory has appended a first part of what it was to append, and has opened and closed no level.
 pub trait Formatter {
     // Where white space stands, with the levels that stand open.
     ghost layout: { Self → Layout };
@@ -29,18 +29,21 @@ pub trait Formatter {
     /// Opens a level, and appends what stands before its first field or element.
     fn before_first_element(&mut self, buffer: &mut CodeBuffer) -> Result<(), AllocError>
         ensures level { OnOk result (layout self.new ≡ deeper (layout self.old)) }
+        ensures level_refused { OnErr result (layout self.new ≡ layout self.old) }
         ensures ok { OnOk result (Appends buffer.old buffer.new (new_line (deeper (layout self.old)))) }
         ensures refused { OnErr result (IsPartlyPrinted buffer.old buffer.new (new_line (deeper (layout self.old)))) };
 
     /// Appends what stands before a later field or element.
     fn before_later_element(&mut self, buffer: &mut CodeBuffer) -> Result<(), AllocError>
         ensures level { OnOk result (layout self.new ≡ layout self.old) }
+        ensures level_refused { OnErr result (layout self.new ≡ layout self.old) }
         ensures ok { OnOk result (Appends buffer.old buffer.new (new_line (layout self.old))) }
         ensures refused { OnErr result (IsPartlyPrinted buffer.old buffer.new (new_line (layout self.old))) };
 
     /// Appends what stands between a field's colon and its value.
     fn before_field_value(&mut self, buffer: &mut CodeBuffer) -> Result<(), AllocError>
         ensures level { OnOk result (layout self.new ≡ layout self.old) }
+        ensures level_refused { OnErr result (layout self.new ≡ layout self.old) }
         ensures ok { OnOk result (Appends buffer.old buffer.new (space (layout self.old))) }
         ensures refused { OnErr result (IsPartlyPrinted buffer.old buffer.new (space (layout self.old))) };
 
@@ -48,6 +51,7 @@ pub trait Formatter {
     /// none stays open.
     fn after_last_element(&mut self, buffer: &mut CodeBuffer) -> Result<(), AllocError>
         ensures level { OnOk result (layout self.new ≡ shallower (layout self.old)) }
+        ensures level_refused { OnErr result (layout self.new ≡ layout self.old) }
         ensures ok { OnOk result (Appends buffer.old buffer.new (new_line (shallower (layout self.old)))) }
         ensures refused { OnErr result (IsPartlyPrinted buffer.old buffer.new (new_line (shallower (layout self.old)))) };
 
@@ -117,8 +121,10 @@ impl Formatter for PrettyFormatter {
 
     // No text has room for `usize::MAX` levels.
     fn before_first_element(&mut self, buffer: &mut CodeBuffer) -> Result<(), AllocError> {
-        self.indent = self.indent.checked_add(1).ok_or(AllocError)?;
-        print_new_line(buffer, self.indent)
+        let levels = self.indent.checked_add(1).ok_or(AllocError)?;
+        print_new_line(buffer, levels)?;
+        self.indent = levels;
+        Ok(())
     }
 
     fn before_later_element(&mut self, buffer: &mut CodeBuffer) -> Result<(), AllocError> {
@@ -130,16 +136,21 @@ impl Formatter for PrettyFormatter {
     }
 
     fn after_last_element(&mut self, buffer: &mut CodeBuffer) -> Result<(), AllocError> {
-        self.indent = self.indent.saturating_sub(1);
-        print_new_line(buffer, self.indent)
+        let levels = self.indent.saturating_sub(1);
+        print_new_line(buffer, levels)?;
+        self.indent = levels;
+        Ok(())
     }
 }
 
-// Two spaces a level, whatever the buffer's own indent is.
+// Two spaces a level, whatever the buffer's own indent is. It makes room first, so that want of memory
+// leaves the buffer as it was.
 fn print_new_line(buffer: &mut CodeBuffer, levels: usize) -> Result<(), AllocError>
     ensures ok { OnOk result (Appends buffer.old buffer.new (new_line (pretty levels))) }
     ensures refused { OnErr result (IsPartlyPrinted buffer.old buffer.new (new_line (pretty levels))) }
 {
+    let spaces = levels.checked_mul(2).ok_or(AllocError)?;
+    buffer.reserve(spaces.checked_add(1).ok_or(AllocError)?)?;
     buffer.print_ascii_byte(b'\n')?;
     for _level in 0..levels {
         buffer.print_str("  ")?;

@@ -14,16 +14,8 @@ mod scan;
 mod sequences;
 mod serializer;
 mod strings;
-#[cfg(test)]
-mod struct_tests;
 mod structs;
-#[cfg(test)]
-mod tests;
 mod trace_path;
-#[cfg(test)]
-mod trait_tests;
-#[cfg(test)]
-mod value_tests;
 mod values;
 
 pub use code_points::{CodePoints, LoneSurrogatesString};
@@ -40,7 +32,7 @@ pub use serializer::{ESTree, Serializer};
 pub use structs::{
     ESTreeSpan, ESTreeStructSerializer, Fields, FlatStructSerializer, StructSerializer,
 };
-pub use trace_path::TracePathPart;
+pub use trace_path::{TracePathPart, trace_path_parts_compare_by_part};
 pub use values::{JsonSafeString, JsonSlice, JsonStr};
 
 /// The law that the text of a node with its fix paths, as

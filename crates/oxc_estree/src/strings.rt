@@ -23,19 +23,6 @@ pub(crate) fn print_quoted(buffer: &mut CodeBuffer, text: &str) -> Result<(), Al
     buffer.print_ascii_byte(b'"')
 }
 
-/// The same, a character at a time: what [`print_quoted`] is compared with.
-#[cfg(test)]
-pub(crate) fn print_quoted_by_chars(buffer: &mut CodeBuffer, text: &str) -> Result<(), AllocError>
-    ensures ok { OnOk result (Appends buffer.old buffer.new (quoted_units (units_of text.now))) }
-    ensures refused { OnErr result (IsPartlyPrinted buffer.old buffer.new (quoted_units (units_of text.now))) }
-{
-    buffer.print_ascii_byte(b'"')?;
-    for c in text.chars() {
-        print_text_char(buffer, c)?;
-    }
-    buffer.print_ascii_byte(b'"')
-}
-
 // Runs of bytes that need no escape are printed whole.
 fn print_escaped(buffer: &mut CodeBuffer, text: &str) -> Result<(), AllocError>
     ensures ok { OnOk result (Appends buffer.old buffer.new (flat_map byte_text text.now)) }
@@ -48,8 +35,8 @@ fn print_escaped(buffer: &mut CodeBuffer, text: &str) -> Result<(), AllocError>
     Ok(())
 }
 
-/// Appends the bytes from `start` up to one that needs an escape, and that one's escape. Answers the
-/// place of the next byte.
+// Appends the bytes from `start` up to one that needs an escape, and that one's escape. Answers the
+// place of the next byte.
 fn print_run(buffer: &mut CodeBuffer, text: &str, start: usize) -> Result<usize, AllocError>
     requires within { start < length text.now }
     requires boundary { IsCharBoundary text.now start }

@@ -2,7 +2,7 @@
 
 ghost use Rattle.std.specs.Prelude.{◌≡◌, OnErr, OnOk};
 ghost use Rattle.oxc_estree.specs.Out.{path_inside, path_outside};
-ghost use Rattle.oxc_estree.specs.TracePathPart.{part_of, path_of};
+ghost use Rattle.oxc_estree.specs.TracePathPart.{ComparesByPart, part_of, path_of};
 
 use std::alloc::AllocError;
 
@@ -19,6 +19,12 @@ impl TracePathPart {
     /// A part that stands for none.
     pub const DUMMY: TracePathPart = TracePathPart::Index(0);
 }
+
+/// The law that two parts are equal exactly where both are fields of one name or both are elements of
+/// one index.
+pub fn trace_path_parts_compare_by_part()
+    ensures { ComparesByPart ⟦<TracePathPart as PartialEq>⟧.eq }
+{}
 
 /// Steps into a field or an element. No path is kept where none is recorded.
 pub(crate) fn step_in(

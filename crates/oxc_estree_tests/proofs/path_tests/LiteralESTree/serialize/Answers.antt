@@ -5,7 +5,7 @@ use Rattle.oxc_estree.specs.Out.{Flags, Meaning, plain}
 use Rattle.oxc_estree.specs.Open.{Field}
 use Rattle.oxc_estree.proofs.Refusals.{at_err}
 use Rattle.oxc_estree.proofs.StructUnderWay.{steps_begin, begin_struct_refused, field_by_steps, begin_field_refused, value_refused, struct_ended, struct_end_refused}
-use Rattle.oxc_estree.proofs.tests.LiteralESTree.serialize.Goals as goal
+use Rattle.oxc_estree_tests.proofs.path_tests.LiteralESTree.serialize.Goals as goal
 
 abbrev start : Flags → Meaning
 start _ = plain (whole (pos 5))

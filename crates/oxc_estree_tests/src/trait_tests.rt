@@ -1,12 +1,19 @@
-//! Types of the tests' own that implement each trait: somebody else's are proved against its laws like
-//! these.
+//! Types of the tests' own that implement each trait.
 
-ghost use Rattle.std.specs.Prelude.{false, refl, true, []};
+ghost use Rattle.std.specs.Prelude.{◌≡◌, false, refl, true, [], OnErr, OnOk};
 ghost use Rattle.json_text.specs.Layout.{compact};
+ghost use Rattle.json_text.specs.Text.{key_text};
+ghost use Rattle.json_text.specs.Units.{units_of};
+ghost use Rattle.oxc_data_structures.specs.CodeBuffer.{Appends};
+ghost use Rattle.oxc_estree.specs.Refused.{IsPartlyPrinted};
 
-use super::*;
-use crate::pieces::print_key;
+use crate::plain_strings::print_quoted_by_chars;
 use oxc_data_structures::code_buffer::CodeBuffer;
+use oxc_estree::{
+    CompactFormatter, Config, ESTree, ESTreeSequenceSerializer, ESTreeSerializer, ESTreeSpan,
+    ESTreeStructSerializer, Formatter, JsonSlice, PrettyFormatter, SequenceSerializer, Serializer,
+    StructSerializer,
+};
 use std::alloc::AllocError;
 use std::test::Fail;
 
@@ -18,7 +25,7 @@ enum Syntax {
 }
 
 impl Config for Syntax {
-    ghost use Rattle.oxc_estree.specs.declared.trait_tests.Syntax.TheVariants.{Js, Ts};
+    ghost use Rattle.oxc_estree_tests.specs.declared.trait_tests.Syntax.TheVariants.{Js, Ts};
 
     ghost ts = { elim [ Js r ↦ false | Ts r ↦ true ] };
 
@@ -147,10 +154,10 @@ impl Serializer for Bare {
 
     fn begin_field(&mut self, key: &'static str, first: bool) -> Result<(), AllocError> {
         if first {
-            print_key(&mut CompactFormatter, &mut self.buffer, key)
+            print_key(&mut self.buffer, key)
         } else {
             self.buffer.print_str(",")?;
-            print_key(&mut CompactFormatter, &mut self.buffer, key)
+            print_key(&mut self.buffer, key)
         }
     }
 
@@ -177,6 +184,14 @@ impl Serializer for Bare {
     fn end_sequence(&mut self, _empty: bool) -> Result<(), AllocError> {
         self.buffer.print_str("]")
     }
+}
+
+fn print_key(buffer: &mut CodeBuffer, key: &str) -> Result<(), AllocError>
+    ensures ok { OnOk result (Appends buffer.old buffer.new (key_text compact (units_of key.now))) }
+    ensures refused { OnErr result (IsPartlyPrinted buffer.old buffer.new (key_text compact (units_of key.now))) }
+{
+    print_quoted_by_chars(buffer, key)?;
+    buffer.print_ascii_byte(b':')
 }
 
 // A struct in somebody else's hands. Its plain fields are counted.
@@ -282,13 +297,18 @@ fn own_struct_serializer(rt: HostRuntime) -> Result<(), Fail> {
         inner: &mut state,
         fields: 0,
     };
+    let none: [u32; 0] = [];
+    counting.serialize_field("none", &JsonSlice(&none))?;
     counting.serialize_field("one", &JsonSlice(&[1u32, 2]))?;
     counting.serialize_ts_field("two", &2u32)?;
     counting.serialize_js_field("three", &3u32)?;
-    assert_eq!(rt; counting.fields, 1);
+    assert_eq!(rt; counting.fields, 2);
     counting.end()?;
     state.end()?;
-    assert_eq!(rt; serializer.buffer.as_str(), "{\"one\":[1,2],\"three\":3}");
+    assert_eq!(rt;
+        serializer.buffer.as_str(),
+        "{\"none\":[],\"one\":[1,2],\"three\":3}"
+    );
     Ok(())
 }
 

@@ -2,11 +2,11 @@ use Rattle.std.proofs.Common.{rules, ◌++◌, codes, List, false}
 use Rattle.std.proofs.lemmas.Result.{on_ok_weaker, on_err_weaker}
 use Rattle.json_text.specs.Json.{string, truth}
 use Rattle.json_text.specs.Units.{units_of}
-use Rattle.oxc_estree.specs.declared.struct_tests.Named.{Named}
+use Rattle.oxc_estree_tests.specs.declared.struct_tests.Named.{Named}
 use Rattle.oxc_estree.specs.Out.{Flags, flags, plain}
 use Rattle.oxc_estree.specs.Open.{Field, js_field, span_fields, ts_field}
 use Rattle.oxc_estree.proofs.StructUnderWay.{struct_begins, fields_written, fields_refused, last_fields_written, last_fields_refused, struct_ended, struct_end_refused}
-use Rattle.oxc_estree.proofs.struct_tests.NamedESTree.serialize.Goals as goal
+use Rattle.oxc_estree_tests.proofs.struct_tests.NamedESTree.serialize.Goals as goal
 
 abbrev span : Named → Flags → List Field
 span n f = span_fields f n.place.start n.place.end

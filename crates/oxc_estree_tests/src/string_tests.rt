@@ -1,0 +1,98 @@
+//! What strings look like, and the scan by eight bytes beside a plain loop.
+
+use crate::plain_strings::print_quoted_by_chars;
+use crate::value_tests::compact;
+use oxc_data_structures::code_buffer::CodeBuffer;
+use oxc_estree::{JsonSafeString, JsonSlice, JsonStr, LoneSurrogatesString, get_escapes_mask};
+use std::alloc::{AllocError, Global};
+use std::test::Fail;
+
+#[test]
+fn texts_and_lists_of_them(rt: HostRuntime) -> Result<(), Fail> {
+    let alloc = rt.alloc();
+    let rows = [
+        ("[]", JsonSlice(&[])),
+        ("[\"one\"]", JsonSlice(&[JsonStr("one")])),
+        (
+            "[\"\",\"\\\"\\\\/\"]",
+            JsonSlice(&[JsonStr(""), JsonStr("\"\\/")]),
+        ),
+        (
+            "[\"\\u0000\\u0007\\b\\t\\n\\u000b\\f\\r\\u001f \"]",
+            JsonSlice(&[JsonStr("\0\x07\x08\t\n\x0b\x0c\r\x1f ")]),
+        ),
+        (
+            "[\"\u{7f}\u{e9}\u{1f600}\"]",
+            JsonSlice(&[JsonStr("\u{7f}\u{e9}\u{1f600}")]),
+        ),
+    ];
+    for (want, value) in rows {
+        assert_eq!(rt; compact(alloc, &value)?.as_str(), want);
+    }
+    assert_eq!(rt;
+        compact(alloc, &JsonSafeString("\u{1f600}"))?.as_str(),
+        "\"\u{1f600}\""
+    );
+    let mut text = String::new(alloc);
+    text.push_str("a\"b")?;
+    assert_eq!(rt; compact(alloc, &text)?.as_str(), "\"a\\\"b\"");
+    Ok(())
+}
+
+#[test]
+fn strings_of_code_points(rt: HostRuntime) -> Result<(), Fail> {
+    let alloc = rt.alloc();
+    let points = [0xd800, 0x08, 0x0a, 0x22, 0x5c, 0x1f];
+    let text = compact(alloc, &LoneSurrogatesString(points.iter().copied()))?;
+    assert_eq!(rt; text.as_str(), "\"\\ud800\\b\\n\\\"\\\\\\u001f\"");
+    // A pair is one character; surrogates that are no pair, and a number that is no code point.
+    let points = [0xd83d, 0xde00, 0xde00, 0xd83d, 0x61, 0x11_0000];
+    let text = compact(alloc, &LoneSurrogatesString(points.iter().cloned()))?;
+    assert_eq!(rt; text.as_str(), "\"\u{1f600}\\ude00\\ud83da\u{fffd}\"");
+    let points = [0x1_f600, 0xe9, 0xd801, 0xd802];
+    let text = compact(alloc, &LoneSurrogatesString(points.into_iter()))?;
+    assert_eq!(rt; text.as_str(), "\"\u{1f600}\u{e9}\\ud801\\ud802\"");
+    Ok(())
+}
+
+#[test]
+fn marks_of_eight_bytes(rt: HostRuntime) -> Result<(), Fail> {
+    let rows = [
+        (*b"ab\"cdefg", 0x80_0000),
+        // Only the lowest mark is true: the space needs no escape.
+        (*b"\x1f aaaaaa", 0x8080),
+        (*b"abcdefgh", 0),
+        (*b"abcdefg\\", 0x8000_0000_0000_0000),
+        ([0xff; 8], 0),
+    ];
+    for (bytes, want) in rows {
+        assert_eq!(rt; get_escapes_mask(bytes), want);
+    }
+    Ok(())
+}
+
+// Each length up to three words, with an escape at each place.
+#[test]
+fn the_scan_prints_as_the_loop(rt: HostRuntime) -> Result<(), Fail> {
+    let alloc = rt.alloc();
+    for len in 0..25 {
+        for at in 0..=len {
+            for escape in ['"', '\\', '\n', '\x01', '\u{e9}'] {
+                let text = with_escape(alloc, len, at, escape)?;
+                let scanned = compact(alloc, &text)?;
+                let mut plain = CodeBuffer::new(alloc);
+                print_quoted_by_chars(&mut plain, &text)?;
+                assert_eq!(rt; scanned.as_str(), plain.as_str());
+            }
+        }
+    }
+    Ok(())
+}
+
+fn with_escape(alloc: Global, len: u32, at: u32, escape: char) -> Result<String, AllocError> {
+    let mut text = String::new(alloc);
+    for i in 0..len {
+        text.push(if i == at { escape } else { 'a' })?;
+    }
+    Ok(text)
+}
