@@ -9,9 +9,10 @@ use lib.Utf8.{scalar, scalars, encodes, scalar_cases}
 use Rattle.json_text.specs.Strings.{is_lead}
 use Rattle.json_text.specs.Units.{are_code_units, units_of}
 use Rattle.json_text.proofs.Units.{are_code_units-AreCodeUnits, AreCodeUnits-are_code_units}
+use Rattle.oxc_estree.proofs.Units.{no_lead}
 use Rattle.oxc_str.specs.Wtf8.{code_points, wtf8, has_lone_surrogate, is_surrogate, IsWtf8, BytesGiveUnitsBack}
 use Rattle.oxc_str.proofs.CodePoints.{IsCodePoint, AreCodePoints, chars-of_encodes, chars_none}
-use Rattle.oxc_str.proofs.CodeUnits.{Unsplit, spelled, code_points-of_units, AreCodeUnits-of_code_points, code_points-nil, no_lead, no_pair_by_lead}
+use Rattle.oxc_str.proofs.CodeUnits.{Unsplit, spelled, code_points-of_units, AreCodeUnits-of_code_points, code_points-nil, no_pair_by_lead}
 
 pub wtf8-is : (us : List ℕ) → wtf8 us ≡ encodes (code_points us)
 unfolding wtf8

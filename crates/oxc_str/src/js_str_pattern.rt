@@ -137,7 +137,8 @@ fn ends_with_bytes(haystack: &[u8], needle: &[u8]) -> bool
     is_suffix(haystack, needle)
 }
 
-/// A test of characters. It isn't called for a lone surrogate.
+/// A test of characters, which can be called at any time and answers one character always alike. It
+/// isn't called for a lone surrogate.
 #[derive(Drop)]
 pub struct Pred<F>(
     /// The test.
