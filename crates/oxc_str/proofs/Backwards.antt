@@ -4,8 +4,10 @@ use Rattle.std.specs.Str.{chars}
 use Rattle.std.proofs.Math.Seq.{take-append_seam, drop-append_seam}
 use Rattle.std.proofs.lemmas.Bool.{cases_lt}
 use Rattle.std.proofs.lemmas.List.{get_or-append-add}
+use Rattle.std.proofs.lemmas.Str.{encodes-append}
 use lib.Utf8.{encode, encodes}
 use Rattle.oxc_str.specs.JSChars.{IsGeneralizedUtf8, EndsFrom}
+use Rattle.oxc_str.specs.Wtf8Buffer.{last_or_0}
 use Rattle.oxc_str.proofs.CodePoints.{IsCodePoint, AreCodePoints, Follows, Shape, of1, of2, of3, of4, shape, chars-of_encodes, chars_before}
 use Rattle.oxc_str.proofs.Decoding.{AreCodePoints-are_code_points, IsGeneralizedUtf8-encodes}
 
@@ -53,12 +55,7 @@ front [] = []
 front (c ∷ []) = []
 front (c ∷ d ∷ cs) = c ∷ front (d ∷ cs)
 
-abbrev pub last : List ℕ → ℕ
-last [] = 0
-last (c ∷ []) = c
-last (c ∷ d ∷ cs) = last (d ∷ cs)
-
-pub front-last : (c : ℕ) (cs : List ℕ) → front (c ∷ cs) ++ last (c ∷ cs) ∷ [] ≡ c ∷ cs
+pub front-last : (c : ℕ) (cs : List ℕ) → front (c ∷ cs) ++ last_or_0 (c ∷ cs) ∷ [] ≡ c ∷ cs
 front-last c [] = refl
 front-last c (d ∷ cs) = ap (λ (l : List ℕ). c ∷ l) (front-last d cs)
 
@@ -67,17 +64,9 @@ AreCodePoints-front [] a = tt
 AreCodePoints-front (c ∷ []) a = tt
 AreCodePoints-front (c ∷ d ∷ cs) a = (a.0, AreCodePoints-front (d ∷ cs) a.1)
 
-IsCodePoint-last : (c : ℕ) (cs : List ℕ) → AreCodePoints (c ∷ cs) → IsCodePoint (last (c ∷ cs))
+IsCodePoint-last : (c : ℕ) (cs : List ℕ) → AreCodePoints (c ∷ cs) → IsCodePoint (last_or_0 (c ∷ cs))
 IsCodePoint-last c [] a = a.0
 IsCodePoint-last c (d ∷ cs) a = IsCodePoint-last d cs a.1
-
-pub encodes-append : (cs ds : List ℕ) → encodes (cs ++ ds) ≡ encodes cs ++ encodes ds
-encodes-append [] ds = refl
-encodes-append (c ∷ cs) ds = ap (λ (l : List ℕ). encode c ++ l) (encodes-append cs ds) ∙ sym (append-assoc (encode c) (encodes cs) (encodes ds))
-  where
-    append-assoc : (xs ys zs : List ℕ) → (xs ++ ys) ++ zs ≡ xs ++ (ys ++ zs)
-    append-assoc [] ys zs = refl
-    append-assoc (x ∷ xs) ys zs = ap (λ (l : List ℕ). x ∷ l) (append-assoc xs ys zs)
 
 -- ---- the last code point
 
@@ -129,7 +118,7 @@ unfolding last_lead
 ending-by bs [] s a e l = absurd (omega (arith, ap length e))
 ending-by bs (c ∷ cs) s a e l =
     let f = front (c ∷ cs) in
-    let z = last (c ∷ cs) in
+    let z = last_or_0 (c ∷ cs) in
     let is : encodes f ++ encode z ≡ bs =
     ap (λ (l : List ℕ). encodes f ++ l) (sym (append-nil (encode z))) ∙ sym (encodes-append f (z ∷ [])) ∙ ap encodes (front-last c cs) ∙ e in
     let at : length (encodes f) ≡ length (encodes (front (chars bs))) = ap (λ (l : List ℕ). length (encodes (front l))) (sym s) in

@@ -1,16 +1,18 @@
 -- Canonical WTF-8 by its code points.
-use Rattle.std.proofs.Common.{◌≡◌, ℕ, ◌<◌, ◌≤◌, ⊎_elim, inl, inr, List, [], ◌∷◌, get_or, length, Bool, true, false, ◌||◌, flat_map, arith, sym, ap, ◌∙◌, refl, subst, true≢false}
+use Rattle.std.proofs.Common.{◌≡◌, ℕ, ◌<◌, ◌≤◌, ⊎_elim, inl, inr, List, [], ◌∷◌, get_or, length, true, false, flat_map, arith, sym, ap, ◌∙◌, refl, subst, true≢false}
 use Rattle.std.specs.Char.Escape.{encode_utf16}
 use Rattle.std.specs.List.{list_any}
 use Rattle.std.specs.Str.{IsUtf8, chars}
-use Rattle.std.proofs.lemmas.Bool.{cases_lt}
+use Rattle.std.proofs.lemmas.Bool.{and_parts, cases_lt, or_parts}
 use Rattle.std.proofs.lemmas.Bool.Decides.{nat_tests}
 use lib.Utf8.{scalar, scalars, encodes, scalar_cases}
 use Rattle.json_text.specs.Strings.{is_lead}
 use Rattle.json_text.specs.Units.{are_code_units, units_of}
+use Rattle.json_text.proofs.Units.{are_code_units-AreCodeUnits, AreCodeUnits-are_code_units}
+use Rattle.oxc_estree.proofs.Units.{no_lead}
 use Rattle.oxc_str.specs.Wtf8.{code_points, wtf8, has_lone_surrogate, is_surrogate, IsWtf8, BytesGiveUnitsBack}
 use Rattle.oxc_str.proofs.CodePoints.{IsCodePoint, AreCodePoints, chars-of_encodes, chars_none}
-use Rattle.oxc_str.proofs.CodeUnits.{both, AreUnits-are_code_units, are_code_units-AreUnits, Unsplit, spelled, code_points-of_units, AreUnits-of_code_points, code_points-nil, no_lead, no_pair_by_lead}
+use Rattle.oxc_str.proofs.CodeUnits.{Unsplit, spelled, code_points-of_units, AreCodeUnits-of_code_points, code_points-nil, no_pair_by_lead}
 
 pub wtf8-is : (us : List ℕ) → wtf8 us ≡ encodes (code_points us)
 unfolding wtf8
@@ -29,7 +31,7 @@ pub IsWtf8-encodes : (cs : List ℕ) → AreCodePoints cs → Unsplit cs → IsW
 IsWtf8-encodes cs a p =
     let e = units_of-encodes cs a in
     record {
-      units = ap are_code_units e ∙ are_code_units-AreUnits _ (AreUnits-of_code_points cs a);
+      units = ap are_code_units e ∙ are_code_units-AreCodeUnits _ (AreCodeUnits-of_code_points cs a);
       canonical = ap wtf8 e ∙ wtf8-is _ ∙ ap encodes (code_points-of_units cs a p);
     }
 
@@ -38,7 +40,7 @@ IsWtf8-points bytes cs p = subst IsWtf8 p.bytes_are (IsWtf8-encodes cs p.codes p
 
 points-by : (bytes : List ℕ) → IsWtf8 bytes → Points bytes (code_points (units_of bytes))
 points-by bytes w =
-    let s = spelled (units_of bytes) (AreUnits-are_code_units _ w.units) in
+    let s = spelled (units_of bytes) (AreCodeUnits-are_code_units _ w.units) in
     record { codes = s.codes; unsplit = s.unsplit; bytes_are = sym (wtf8-is _) ∙ w.canonical }
 
 -- the code points of the units are those that the bytes spell
@@ -52,7 +54,7 @@ points bytes w = subst (Points bytes) (code_points-chars bytes w) (points-by byt
 
 pub bytes_give_units_back : BytesGiveUnitsBack
 bytes_give_units_back us u =
-    let s = spelled us (AreUnits-are_code_units us u) in
+    let s = spelled us (AreCodeUnits-are_code_units us u) in
     let w = subst IsWtf8 (sym (wtf8-is us)) (IsWtf8-encodes _ s.codes s.unsplit) in
     (w, ap units_of (wtf8-is us) ∙ units_of-encodes _ s.codes ∙ s.back)
 
@@ -85,7 +87,7 @@ pub record Characters (cs : List ℕ) : Type 0 where
 pub characters : (cs : List ℕ) → scalars cs ≡ true → Characters cs
 characters [] e = record { codes = tt; unsplit = tt; no_surrogates = refl }
 characters (c ∷ cs) e =
-    let b = both (scalar c) (scalars cs) e in
+    let b = and_parts (scalar c) (scalars cs) e in
     let k = character c b.0 in
     let r = characters cs b.1 in
     record {
@@ -103,14 +105,10 @@ no_lone-IsUtf8 bytes u =
     has_lone_surrogate-chars bytes (IsWtf8-IsUtf8 bytes u)
     ∙ ap (list_any is_surrogate) (ap chars (sym u.1.1) ∙ chars-of_encodes u.0 k.codes) ∙ k.no_surrogates
 
-neither : (a b : Bool) → (a || b) ≡ false → (a ≡ false) × (b ≡ false)
-neither true b e = absurd (true≢false e)
-neither false b e = (refl, e)
-
 scalars-no_surrogates : (cs : List ℕ) → AreCodePoints cs → list_any is_surrogate cs ≡ false → scalars cs ≡ true
 scalars-no_surrogates [] a e = refl
 scalars-no_surrogates (c ∷ cs) a e =
-    let n = neither (is_surrogate c) (list_any is_surrogate cs) e in
+    let n = or_parts (is_surrogate c) (list_any is_surrogate cs) e in
     rw (no_surrogate c a.0 n.0) (scalars-no_surrogates cs a.1 n.1)
 
 pub IsUtf8-no_lone : (bytes : List ℕ) → IsWtf8 bytes → has_lone_surrogate (units_of bytes) ≡ false → IsUtf8 bytes

@@ -1,32 +1,18 @@
 -- Code units and their code points give each other back.
-use Rattle.std.proofs.Common.{◌≡◌, ℕ, ◌<◌, ◌≤◌, ◌+◌, ◌-◌, ◌/◌, ◌%◌, ◌⊎◌, ⊎_elim, inl, inr, List, [], ◌∷◌, ◌++◌, get_or, Bool, true, false, ◌&&◌, nat_le, nat_lt, flat_map, arith, sym, ap, ◌∙◌, refl, subst, lt-ltb, le-ltb, ltb-true, leb-true, true≢false}
+use Rattle.std.proofs.Common.{◌≡◌, ℕ, ◌<◌, ◌≤◌, ◌+◌, ◌-◌, ◌/◌, ◌%◌, ⊎_elim, inl, inr, List, [], ◌∷◌, ◌++◌, get_or, Bool, true, false, ◌&&◌, nat_le, nat_lt, flat_map, arith, sym, ap, ◌∙◌, refl, subst, ltb-true, leb-true}
 use Rattle.std.specs.Char.Escape.{encode_utf16}
-use Rattle.std.proofs.lemmas.Bool.{cases_lt}
+use Rattle.std.proofs.Math.Bool.{and-false}
+use Rattle.std.proofs.lemmas.Bool.{and_parts, cases_lt}
 use Rattle.std.proofs.lemmas.Bool.Decides.{nat_tests}
 use Rattle.json_text.specs.Strings.{is_lead, is_trail, joined}
-use Rattle.json_text.specs.Units.{are_code_units}
+use Rattle.json_text.specs.HasText.{AreCodeUnits}
+use Rattle.oxc_estree.proofs.Units.{no_lead, no_trail, low_units, high_units}
 use Rattle.oxc_str.specs.Wtf8.{code_points}
 use Rattle.oxc_str.proofs.CodePoints.{IsCodePoint, AreCodePoints}
 
-abbrev pub AreUnits : List ℕ → Type 0
-AreUnits [] = Unit {0}
-AreUnits (u ∷ us) = (u < 65536) × AreUnits us
-
-pub both : (a b : Bool) → (a && b) ≡ true → (a ≡ true) × (b ≡ true)
-both true b e = (refl, e)
-both false b e = absurd (true≢false (sym e))
-
-pub are_code_units-AreUnits : (us : List ℕ) → AreUnits us → are_code_units us ≡ true
-are_code_units-AreUnits [] a = refl
-are_code_units-AreUnits (u ∷ us) a = rw (lt-ltb u 65536 a.0) (are_code_units-AreUnits us a.1)
-
-pub AreUnits-are_code_units : (us : List ℕ) → are_code_units us ≡ true → AreUnits us
-AreUnits-are_code_units [] e = tt
-AreUnits-are_code_units (u ∷ us) e = let b = both (nat_lt u 65536) (are_code_units us) e in (ltb-true u 65536 b.0, AreUnits-are_code_units us b.1)
-
-pub AreUnits-append : (us vs : List ℕ) → AreUnits us → AreUnits vs → AreUnits (us ++ vs)
-AreUnits-append [] vs a b = b
-AreUnits-append (u ∷ us) vs a b = (a.0, AreUnits-append us vs a.1 b)
+pub AreCodeUnits-append : (us vs : List ℕ) → AreCodeUnits us → AreCodeUnits vs → AreCodeUnits (us ++ vs)
+AreCodeUnits-append [] vs a b = b
+AreCodeUnits-append (u ∷ us) vs a b = (a.0, AreCodeUnits-append us vs a.1 b)
 
 -- ---- leads and trails
 
@@ -35,38 +21,18 @@ abbrev pub is_pair : ℕ → ℕ → Bool
 is_pair u v = is_lead u && is_trail v
 
 pub lead_range : (u : ℕ) → is_lead u ≡ true → (55296 ≤ u) × (u < 56320)
-lead_range u e = let b = both (nat_le 55296 u) (nat_lt u 56320) e in (leb-true 55296 u b.0, ltb-true u 56320 b.1)
+lead_range u e = let b = and_parts (nat_le 55296 u) (nat_lt u 56320) e in (leb-true 55296 u b.0, ltb-true u 56320 b.1)
 
 pub trail_range : (u : ℕ) → is_trail u ≡ true → (56320 ≤ u) × (u < 57344)
-trail_range u e = let b = both (nat_le 56320 u) (nat_lt u 57344) e in (leb-true 56320 u b.0, ltb-true u 57344 b.1)
-
-pub no_trail : (u : ℕ) → (u < 56320) ⊎ (57344 ≤ u) → is_trail u ≡ false
-no_trail u s = ⊎_elim (λ (h : u < 56320). grind (arith, nat_tests)) (λ (h : 57344 ≤ u). grind (arith, nat_tests)) s
-
-pub no_lead : (u : ℕ) → (u < 55296) ⊎ (56320 ≤ u) → is_lead u ≡ false
-no_lead u s = ⊎_elim (λ (h : u < 55296). grind (arith, nat_tests)) (λ (h : 56320 ≤ u). grind (arith, nat_tests)) s
-
-and_false : (a b : Bool) → b ≡ false → (a && b) ≡ false
-and_false true b e = e
-and_false false b e = refl
-
-false_and : (a b : Bool) → a ≡ false → (a && b) ≡ false
-false_and true b e = absurd (true≢false e)
-false_and false b e = refl
+trail_range u e = let b = and_parts (nat_le 56320 u) (nat_lt u 57344) e in (leb-true 56320 u b.0, ltb-true u 57344 b.1)
 
 pub no_pair_by_trail : (u v : ℕ) → is_trail v ≡ false → is_pair u v ≡ false
-no_pair_by_trail u v e = and_false (is_lead u) (is_trail v) e
+no_pair_by_trail u v e = ap (λ (b : Bool). is_lead u && b) e ∙ and-false (is_lead u)
 
 pub no_pair_by_lead : (u v : ℕ) → is_lead u ≡ false → is_pair u v ≡ false
-no_pair_by_lead u v e = false_and (is_lead u) (is_trail v) e
+no_pair_by_lead u v e = ap (λ (b : Bool). b && is_trail v) e
 
 -- ---- one code point
-
-pub one_unit : (c : ℕ) → c < 65536 → encode_utf16 c ≡ c ∷ []
-one_unit c h = rw (lt-ltb c 65536 h)
-
-pub two_units : (c : ℕ) → 65536 ≤ c → encode_utf16 c ≡ (55296 + (c - 65536) / 1024) ∷ (56320 + (c - 65536) % 1024) ∷ []
-two_units c h = rw (le-ltb c 65536 h)
 
 pub code_points-nil : code_points [] ≡ []
 unfolding code_points
@@ -97,7 +63,7 @@ pub record Spelled (us cs : List ℕ) : Type 0 where
 
 spelled_pair : (u v : ℕ) (us cs : List ℕ) → is_pair u v ≡ true → Spelled us cs → Spelled (u ∷ v ∷ us) (joined u v ∷ cs)
 spelled_pair u v us cs p s =
-    let b = both (is_lead u) (is_trail v) p in
+    let b = and_parts (is_lead u) (is_trail v) p in
     let l = lead_range u b.0 in
     let t = trail_range v b.1 in
     let c = joined u v in
@@ -109,7 +75,7 @@ spelled_pair u v us cs p s =
     record {
       codes = (top, s.codes);
       unsplit = (no_pair_by_lead c (get_or cs 0 0) (no_lead c (inr (omega arith))), s.unsplit);
-      back = rw (two_units c long, first, second, s.back) refl;
+      back = rw (high_units c long, first, second, s.back) refl;
       head = no_trail c (inr (omega arith)) ∙ sym (no_trail u (inl low));
     }
 
@@ -117,7 +83,7 @@ spelled_alone : (u : ℕ) (us cs : List ℕ) → u < 65536 → is_pair u (get_or
 spelled_alone u us cs h p s = record {
   codes = (omega arith, s.codes);
   unsplit = (ap (λ (b : Bool). is_lead u && b) s.head ∙ p, s.unsplit);
-  back = rw (one_unit u h, s.back) refl;
+  back = rw (low_units u h, s.back) refl;
   head = refl;
 }
 
@@ -128,7 +94,7 @@ by_pair u v us false p h s r = subst (Spelled (u ∷ v ∷ us)) (sym (code_point
 none_spelled : Spelled [] (code_points [])
 none_spelled = subst (Spelled []) (sym code_points-nil) (record { codes = tt; unsplit = tt; back = refl; head = refl })
 
-pub spelled : (us : List ℕ) → AreUnits us → Spelled us (code_points us)
+pub spelled : (us : List ℕ) → AreCodeUnits us → Spelled us (code_points us)
 spelled [] a = none_spelled
 spelled (u ∷ []) a =
     let p = no_pair_by_trail u 0 refl in
@@ -141,10 +107,10 @@ spelled (u ∷ v ∷ us) a = by_pair u v us (is_pair u v) refl a.0 (spelled us a
 head_units : (cs : List ℕ) → AreCodePoints cs → is_trail (get_or (flat_map encode_utf16 cs) 0 0) ≡ is_trail (get_or cs 0 0)
 head_units [] a = refl
 head_units (c ∷ cs) a = ⊎_elim
-    (λ (h : c < 65536). rw (one_unit c h) refl)
+    (λ (h : c < 65536). rw (low_units c h) refl)
     (λ (h : 65536 ≤ c).
     let low : 55296 + (c - 65536) / 1024 < 56320 = omega (arith, a.0) in
-    rw (two_units c h) (no_trail _ (inl low) ∙ sym (no_trail c (inr (omega arith)))))
+    rw (high_units c h) (no_trail _ (inl low) ∙ sym (no_trail c (inr (omega arith)))))
     (cases_lt c 65536)
 
 joins : (c : ℕ) → 65536 ≤ c → IsCodePoint c → (is_pair (55296 + (c - 65536) / 1024) (56320 + (c - 65536) % 1024) ≡ true) × (joined (55296 + (c - 65536) / 1024) (56320 + (c - 65536) % 1024) ≡ c)
@@ -164,17 +130,17 @@ code_points-of_units (c ∷ cs) a p =
     ⊎_elim
     (λ (h : c < 65536).
     let lone = ap (λ (b : Bool). is_lead c && b) (head_units cs a.1) ∙ p.0 in
-    rw (one_unit c h) (code_points_alone c (flat_map encode_utf16 cs) lone ∙ ap (λ (l : List ℕ). c ∷ l) more))
+    rw (low_units c h) (code_points_alone c (flat_map encode_utf16 cs) lone ∙ ap (λ (l : List ℕ). c ∷ l) more))
     (λ (h : 65536 ≤ c).
     let j = joins c h a.0 in
-    rw (two_units c h) (code_points_pair _ _ (flat_map encode_utf16 cs) j.0 ∙ ap (λ (d : ℕ). d ∷ code_points (flat_map encode_utf16 cs)) j.1 ∙ ap (λ (l : List ℕ). c ∷ l) more))
+    rw (high_units c h) (code_points_pair _ _ (flat_map encode_utf16 cs) j.0 ∙ ap (λ (d : ℕ). d ∷ code_points (flat_map encode_utf16 cs)) j.1 ∙ ap (λ (l : List ℕ). c ∷ l) more))
     (cases_lt c 65536)
 
-pub AreUnits-of_code_points : (cs : List ℕ) → AreCodePoints cs → AreUnits (flat_map encode_utf16 cs)
-AreUnits-of_code_points [] a = tt
-AreUnits-of_code_points (c ∷ cs) a = AreUnits-append (encode_utf16 c) (flat_map encode_utf16 cs)
+pub AreCodeUnits-of_code_points : (cs : List ℕ) → AreCodePoints cs → AreCodeUnits (flat_map encode_utf16 cs)
+AreCodeUnits-of_code_points [] a = tt
+AreCodeUnits-of_code_points (c ∷ cs) a = AreCodeUnits-append (encode_utf16 c) (flat_map encode_utf16 cs)
     (⊎_elim
-    (λ (h : c < 65536). subst AreUnits (sym (one_unit c h)) (h, tt))
-    (λ (h : 65536 ≤ c). subst AreUnits (sym (two_units c h)) (omega (arith, a.0), (omega arith, tt)))
+    (λ (h : c < 65536). subst AreCodeUnits (sym (low_units c h)) (h, tt))
+    (λ (h : 65536 ≤ c). subst AreCodeUnits (sym (high_units c h)) (omega (arith, a.0), (omega arith, tt)))
     (cases_lt c 65536))
-    (AreUnits-of_code_points cs a.1)
+    (AreCodeUnits-of_code_points cs a.1)

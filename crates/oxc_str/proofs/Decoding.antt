@@ -1,12 +1,12 @@
 -- The first and the last code point of bytes of generalized UTF-8.
 use Rattle.std.proofs.Common.{◌≡◌, ℕ, ◌<◌, ◌≤◌, ◌+◌, ◌*◌, ◌%◌, List, [], ◌∷◌, ◌++◌, get_or, length, drop, true, nat_lt, arith, sym, ap, ◌∙◌, refl, subst, lt-ltb, ltb-true}
 use Rattle.std.specs.Str.{chars}
+use Rattle.std.proofs.lemmas.Bool.{and_parts}
 use lib.Utf8.{encode, encodes}
 use Rattle.oxc_str.specs.JSChars.{are_code_points, IsGeneralizedUtf8, BeginsWith}
 use Rattle.oxc_str.proofs.CodePoints.{AreCodePoints, Shape, of1, of2, of3, of4, shape, chars_first, chars-of_encodes}
 use Rattle.oxc_str.specs.Wtf8.{IsWtf8}
 use Rattle.oxc_str.proofs.Canonical.{points}
-use Rattle.oxc_str.proofs.CodeUnits.{both}
 
 pub are_code_points-AreCodePoints : (cs : List ℕ) → AreCodePoints cs → are_code_points cs ≡ true
 are_code_points-AreCodePoints [] a = refl
@@ -14,7 +14,7 @@ are_code_points-AreCodePoints (c ∷ cs) a = rw (lt-ltb c 1114112 a.0) (are_code
 
 pub AreCodePoints-are_code_points : (cs : List ℕ) → are_code_points cs ≡ true → AreCodePoints cs
 AreCodePoints-are_code_points [] e = tt
-AreCodePoints-are_code_points (c ∷ cs) e = let b = both (nat_lt c 1114112) (are_code_points cs) e in (ltb-true c 1114112 b.0, AreCodePoints-are_code_points cs b.1)
+AreCodePoints-are_code_points (c ∷ cs) e = let b = and_parts (nat_lt c 1114112) (are_code_points cs) e in (ltb-true c 1114112 b.0, AreCodePoints-are_code_points cs b.1)
 
 pub IsGeneralizedUtf8-encodes : (cs : List ℕ) → AreCodePoints cs → IsGeneralizedUtf8 (encodes cs)
 IsGeneralizedUtf8-encodes cs a =

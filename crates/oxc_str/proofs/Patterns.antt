@@ -1,15 +1,11 @@
 -- The first and the last match.
-use Rattle.std.proofs.Common.{◌≡◌, ℕ, ◌<◌, ◌≤◌, ◌+◌, ◌-◌, ◌↔◌, IsTrue, List, [], ◌∷◌, ◌++◌, append_assoc, append-nil, true≢false, length, length-append, take, drop, get_or, Bool, true, false, Option, Some, None, arith, sym, ap, ◌∙◌, refl, subst}
+use Rattle.std.proofs.Common.{◌≡◌, ℕ, ◌<◌, ◌≤◌, ◌+◌, ◌-◌, ◌↔◌, IsTrue, List, [], ◌∷◌, ◌++◌, append_assoc, append-nil, true≢false, length, length-append, Bool, true, false, Option, Some, None, arith, sym, ap, ◌∙◌, refl, subst}
 use Rattle.std.specs.Char.{IsScalar}
 use Rattle.std.specs.Str.{chars}
-use Rattle.std.proofs.lemmas.List.Prefix.{front_from_reads, end_from_reads}
-use Rattle.std.proofs.lemmas.List.{get_or-take, get_or-drop, length-take-le}
-use Rattle.std.proofs.lemmas.Str.{length-encode, len_utf8_bounds}
-use Rattle.std.proofs.Math.Seq.{take-append_seam, drop-append_seam}
+use Rattle.std.proofs.lemmas.Str.{encodes-append, length-encode, len_utf8_bounds}
 use lib.Utf8.{encode, encodes}
 use Rattle.memchr.specs.Find.{OccursAt, FindsNeedle, FindsLastNeedle}
-use Rattle.oxc_str.specs.JSStrPattern.{IsLeast, IsGreatest, OccursAtEnd, PassesAt, Answers}
-use Rattle.oxc_str.proofs.Backwards.{encodes-append}
+use Rattle.oxc_str.specs.JSStrPattern.{IsLeast, IsGreatest, IsOneAnswer, OccursAtEnd, PassesAt, Answers}
 
 -- ---- a text
 
@@ -27,16 +23,13 @@ greatest hay needle (Some k) f = (f.1, λ i l o. f.0.after i (omega arith) (occu
 -- ---- a test of characters
 
 module _ (post : ℕ → Bool → Type 0) where
-  abbrev pub OneAnswer : Type 0
-  OneAnswer = (c : ℕ) → post c true → post c false → ⊥
-
   -- no character among these passes
   abbrev pub Fail : List ℕ → Type 0
   Fail [] = Unit {0}
   Fail (c ∷ cs) = (IsScalar c → post c false) × Fail cs
 
-  fail_at : OneAnswer → (before after : List ℕ) (c : ℕ) → Fail (before ++ c ∷ after) → IsScalar c → post c true → ⊥
-  fail_at one [] after c f s p = one c p (f.0 s)
+  fail_at : IsOneAnswer post → (before after : List ℕ) (c : ℕ) → Fail (before ++ c ∷ after) → IsScalar c → post c true → ⊥
+  fail_at one [] after c f s p = one c s p (f.0 s)
   fail_at one (b ∷ before) after c f s p = fail_at one before after c f.1 s p
 
   pub Fail-append : (cs ds : List ℕ) → Fail cs → Fail ds → Fail (cs ++ ds)
@@ -50,18 +43,18 @@ module _ (post : ℕ → Bool → Type 0) where
   tail_same c d cs ds e = cc
 
   -- a character before those that were not tried yet
-  earlier : OneAnswer → (tried rest before after : List ℕ) (c : ℕ) → Fail tried → before ++ c ∷ after ≡ tried ++ rest → length (encodes before) < length (encodes tried) → IsScalar c → post c true → ⊥
+  earlier : IsOneAnswer post → (tried rest before after : List ℕ) (c : ℕ) → Fail tried → before ++ c ∷ after ≡ tried ++ rest → length (encodes before) < length (encodes tried) → IsScalar c → post c true → ⊥
   earlier one [] rest before after c f e l s p = omega arith
   earlier one (t ∷ tried) rest [] after c f e l s p =
       let same = head_same c t after (tried ++ rest) e in
-      one c p (subst (λ (d : ℕ). post d false) (sym same) (f.0 (subst IsScalar same s)))
+      one c s p (subst (λ (d : ℕ). post d false) (sym same) (f.0 (subst IsScalar same s)))
   earlier one (t ∷ tried) rest (b ∷ before) after c f e l s p =
       let same = head_same b t (before ++ c ∷ after) (tried ++ rest) e in
       earlier one tried rest before after c f.1 (tail_same b t (before ++ c ∷ after) (tried ++ rest) e)
       (omega (arith, l, length-append (encode b) (encodes before), length-append (encode t) (encodes tried), ap (λ (d : ℕ). length (encode d)) same)) s p
 
   -- a character after the one that was tried last
-  later : OneAnswer → (left tried before after : List ℕ) (x c : ℕ) → Fail tried → before ++ c ∷ after ≡ left ++ x ∷ tried → length (encodes left) < length (encodes before) → IsScalar c → post c true → ⊥
+  later : IsOneAnswer post → (left tried before after : List ℕ) (x c : ℕ) → Fail tried → before ++ c ∷ after ≡ left ++ x ∷ tried → length (encodes left) < length (encodes before) → IsScalar c → post c true → ⊥
   later one left tried [] after x c f e l s p = omega arith
   later one [] tried (b ∷ before) after x c f e l s p = fail_at one before after c (subst Fail (sym (tail_same b x (before ++ c ∷ after) tried e)) f) s p
   later one (y ∷ left) tried (b ∷ before) after x c f e l s p =
@@ -72,7 +65,7 @@ module _ (post : ℕ → Bool → Type 0) where
   abbrev Passes : ℕ → Type 0
   Passes c = post c true
 
-  pub none_passes : OneAnswer → (bytes : List ℕ) → Fail (chars bytes) → (k : ℕ) → PassesAt Passes bytes k → ⊥
+  pub none_passes : IsOneAnswer post → (bytes : List ℕ) → Fail (chars bytes) → (k : ℕ) → PassesAt Passes bytes k → ⊥
   none_passes one bytes f k q = fail_at one q.before q.after q.char (subst Fail q.split f) q.scalar q.passing
 
   -- What was tried from the front, and what is left.
@@ -88,23 +81,19 @@ module _ (post : ℕ → Bool → Type 0) where
   pub front_step : (bytes left rest : List ℕ) (c offset size : ℕ) → FromFront bytes left offset → left ≡ c ∷ rest → size ≡ length (encode c) → (IsScalar c → post c false) → FromFront bytes rest (offset + size)
   front_step bytes left rest c offset size w e z f = record {
     tried = w.tried ++ c ∷ [];
-    split = w.split ∙ ap (λ (l : List ℕ). w.tried ++ l) e ∙ sym (append-one w.tried c rest);
+    split = w.split ∙ ap (λ (l : List ℕ). w.tried ++ l) e ∙ sym (append_assoc w.tried (c ∷ []) rest);
     offset_is = omega (arith, w.offset_is, z, ap length (encodes-append w.tried (c ∷ [])), length-append (encodes w.tried) (encode c ++ []), length-append {A = ℕ} (encode c) []);
     fail = Fail-append w.tried (c ∷ []) w.fail (f, tt);
   }
-    where
-      append-one : (xs : List ℕ) (y : ℕ) (ys : List ℕ) → (xs ++ y ∷ []) ++ ys ≡ xs ++ y ∷ ys
-      append-one [] y ys = refl
-      append-one (x ∷ xs) y ys = ap (λ (l : List ℕ). x ∷ l) (append-one xs y ys)
 
-  pub front_found : OneAnswer → (bytes left rest : List ℕ) (c offset : ℕ) → FromFront bytes left offset → left ≡ c ∷ rest → IsScalar c → post c true → IsLeast (PassesAt Passes bytes) (Some offset)
+  pub front_found : IsOneAnswer post → (bytes left rest : List ℕ) (c offset : ℕ) → FromFront bytes left offset → left ≡ c ∷ rest → IsScalar c → post c true → IsLeast (PassesAt Passes bytes) (Some offset)
   front_found one bytes left rest c offset w e s p =
       let split = w.split ∙ ap (λ (l : List ℕ). w.tried ++ l) e in (
         record { before = w.tried; char = c; after = rest; split = split; offset = w.offset_is; scalar = s; passing = p },
         λ i l q. earlier one w.tried left q.before q.after q.char w.fail (sym q.split ∙ w.split) (omega (arith, l, q.offset, w.offset_is)) q.scalar q.passing,
       )
 
-  pub front_none : OneAnswer → (bytes left : List ℕ) (offset : ℕ) → FromFront bytes left offset → left ≡ [] → IsLeast (PassesAt Passes bytes) None
+  pub front_none : IsOneAnswer post → (bytes left : List ℕ) (offset : ℕ) → FromFront bytes left offset → left ≡ [] → IsLeast (PassesAt Passes bytes) None
   front_none one bytes left offset w e =
       λ k q. none_passes one bytes (subst Fail (sym (w.split ∙ ap (λ (l : List ℕ). w.tried ++ l) e)) (Fail-append w.tried [] w.fail tt)) k q
 
@@ -145,7 +134,7 @@ module _ (post : ℕ → Bool → Type 0) where
     fail = (f, w.fail);
   }
 
-  pub back_found : OneAnswer → (bytes left rest : List ℕ) (c offset size : ℕ) → FromBack bytes left offset → left ≡ rest ++ c ∷ [] → size ≡ length (encode c) → IsScalar c → post c true → IsGreatest (PassesAt Passes bytes) (Some (offset - size))
+  pub back_found : IsOneAnswer post → (bytes left rest : List ℕ) (c offset size : ℕ) → FromBack bytes left offset → left ≡ rest ++ c ∷ [] → size ≡ length (encode c) → IsScalar c → post c true → IsGreatest (PassesAt Passes bytes) (Some (offset - size))
   back_found one bytes left rest c offset size w e z s p =
       let split = back_split bytes left rest w.tried c w.split e in
       let at : offset - size ≡ length (encodes rest) = omega (arith, back_size bytes left rest c offset size w e z) in (
@@ -153,7 +142,7 @@ module _ (post : ℕ → Bool → Type 0) where
         λ i l q. later one rest w.tried q.before q.after c q.char w.fail (sym q.split ∙ split) (omega (arith, l, q.offset, at)) q.scalar q.passing,
       )
 
-  pub back_none : OneAnswer → (bytes left : List ℕ) (offset : ℕ) → FromBack bytes left offset → left ≡ [] → IsGreatest (PassesAt Passes bytes) None
+  pub back_none : IsOneAnswer post → (bytes left : List ℕ) (offset : ℕ) → FromBack bytes left offset → left ≡ [] → IsGreatest (PassesAt Passes bytes) None
   back_none one bytes left offset w e =
       λ k q. none_passes one bytes (subst Fail (sym (w.split ∙ ap (λ (l : List ℕ). l ++ w.tried) e)) w.fail) k q
 
@@ -163,51 +152,25 @@ module _ (post : ℕ → Bool → Type 0) where
   none_before [] after c d rest z e = head_same d c rest after e
   none_before (b ∷ before) after c d rest z e = absurd (omega (arith, z, length-append (encode b) (encodes before), length-encode b, (len_utf8_bounds b).0))
 
-  pub front_answer : OneAnswer → (bytes rest : List ℕ) (c : ℕ) (r : Bool) → chars bytes ≡ c ∷ rest → Answers post c r → IsTrue r ↔ PassesAt Passes bytes 0
+  pub front_answer : IsOneAnswer post → (bytes rest : List ℕ) (c : ℕ) (r : Bool) → chars bytes ≡ c ∷ rest → Answers post c r → IsTrue r ↔ PassesAt Passes bytes 0
   front_answer one bytes rest c true e a =
       (λ _. record { before = []; char = c; after = rest; split = e; offset = refl; scalar = a.0; passing = a.1 }, λ _. refl)
   front_answer one bytes rest c false e a = (
     λ t. absurd (true≢false (sym t)),
     λ q. let same = none_before q.before q.after q.char c rest q.offset (sym e ∙ q.split) in
-        absurd (one c (subst (λ (d : ℕ). post d true) (sym same) q.passing) (a (subst IsScalar (sym same) q.scalar))),
+        let scalar = subst IsScalar (sym same) q.scalar in
+        absurd (one c scalar (subst (λ (d : ℕ). post d true) (sym same) q.passing) (a scalar)),
   )
 
--- ---- a text at the front and at the end
+-- ---- a text at the end
 
-pub occurs_front : (hay needle : List ℕ) → length needle ≤ length hay → take (length needle) hay ≡ needle → OccursAt hay needle 0
-occurs_front hay needle l e = record { fits = omega arith; reads = λ j h. reads j h }
-  where
-    reads : (j : ℕ) → j < length needle → get_or hay (0 + j) 0 ≡ get_or needle j 0
-    reads j h =
-        let z : 0 + j ≡ j = omega arith in
-        ap (λ (i : ℕ). get_or hay i 0) z ∙ sym (get_or-take (length needle) hay j 0 h) ∙ ap (λ (t : List ℕ). get_or t j 0) e
+pub at_end : (hay needle : List ℕ) → (length needle ≤ length hay) × OccursAt hay needle (length hay - length needle) → OccursAtEnd hay needle
+at_end hay needle p = (length hay - length needle, p.1, omega (arith, p.0))
 
-pub front_occurs : (hay needle : List ℕ) → OccursAt hay needle 0 → take (length needle) hay ≡ needle
-front_occurs hay needle o =
-    let e = front_from_reads 0 hay needle (omega (arith, o.fits)) (λ j h. at j (o.reads j h)) in
-    ap (take (length needle)) e ∙ take-append_seam needle (drop (length needle) hay)
-  where
-    at : (j : ℕ) → get_or hay (0 + j) 0 ≡ get_or needle j 0 → get_or hay j 0 ≡ get_or needle j 0
-    at j r = let z : 0 + j ≡ j = omega arith in sym (ap (λ (i : ℕ). get_or hay i 0) z) ∙ r
-
-pub occurs_end : (hay needle : List ℕ) → length needle ≤ length hay → drop (length hay - length needle) hay ≡ needle → OccursAtEnd hay needle
-occurs_end hay needle l e =
-    (length hay - length needle, record { fits = omega arith; reads = λ j h. reads j h }, omega arith)
-  where
-    reads : (j : ℕ) → j < length needle → get_or hay (length hay - length needle + j) 0 ≡ get_or needle j 0
-    reads j h = sym (get_or-drop (length hay - length needle) hay j 0) ∙ ap (λ (t : List ℕ). get_or t j 0) e
-
-pub end_occurs : (hay needle : List ℕ) → OccursAtEnd hay needle → drop (length hay - length needle) hay ≡ needle
-end_occurs hay needle o =
+pub end_at : (hay needle : List ℕ) → OccursAtEnd hay needle → (length needle ≤ length hay) × OccursAt hay needle (length hay - length needle)
+end_at hay needle o =
     let k : o.0 ≡ length hay - length needle = omega (arith, o.2) in
-    let e = end_from_reads 0 hay needle (omega (arith, o.1.fits)) (λ j h. at j (o.1.reads j h) k) in
-    ap (λ (t : List ℕ). drop (length hay - length needle) t) e ∙ seam (take (length hay - length needle) hay) (length-take-le (length hay - length needle) hay (omega arith))
-  where
-    at : (j : ℕ) → get_or hay (o.0 + j) 0 ≡ get_or needle j 0 → o.0 ≡ length hay - length needle → get_or hay (length hay - length needle + j) 0 ≡ get_or needle j 0
-    at j r k = ap (λ (i : ℕ). get_or hay (i + j) 0) (sym k) ∙ r
-
-    seam : (xs : List ℕ) → length xs ≡ length hay - length needle → drop (length hay - length needle) (xs ++ needle) ≡ needle
-    seam xs n = ap (λ (i : ℕ). drop i (xs ++ needle)) (sym n) ∙ drop-append_seam xs needle
+    (omega (arith, o.2), subst (OccursAt hay needle) k o.1)
 
 pub shorter : (left rest : List ℕ) (c : ℕ) → left ≡ rest ++ c ∷ [] → length rest < length left
 shorter left rest c e = omega (arith, ap length e, length-append rest (c ∷ []))

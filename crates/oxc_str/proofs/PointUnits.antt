@@ -1,9 +1,9 @@
 -- The code units of code points that are handed out as numbers.
-use Rattle.std.proofs.Common.{◌≡◌, ℕ, ◌<◌, List, [], ◌∷◌, ◌++◌, flat_map, arith, sym, ap, ap₂, ◌∙◌, refl, subst, lt-ltb}
+use Rattle.std.proofs.Common.{◌≡◌, ℕ, List, [], ◌∷◌, ◌++◌, flat_map, ap, ◌∙◌, refl, lt-ltb}
 use Rattle.std.specs.Char.Escape.{encode_utf16}
 use Rattle.std.specs.Str.{chars}
 use Rattle.json_text.specs.Units.{units_of}
-use Rattle.oxc_estree.specs.CodePoints.{point_units, points_units}
+use Rattle.oxc_estree.specs.CodePoints.{points_units}
 use Rattle.oxc_str.specs.Wtf8.{IsWtf8}
 use Rattle.oxc_str.proofs.CodePoints.{AreCodePoints}
 use Rattle.oxc_str.proofs.Canonical.{points}

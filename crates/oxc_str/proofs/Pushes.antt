@@ -1,8 +1,9 @@
 -- What is pushed at once: one code point, a text, nothing.
-use Rattle.std.proofs.Common.{◌≡◌, ℕ, ◌≤◌, ◌+◌, List, [], ◌∷◌, append-nil, length, flat_map, Bool, true, false, not, ◌||◌, nat_eq, cond, arith, sym, ap, ◌∙◌, refl, subst, true≢false}
+use Rattle.std.proofs.Common.{◌≡◌, ℕ, ◌≤◌, ◌+◌, List, [], ◌∷◌, append-nil, length, flat_map, Bool, true, false, not, ◌||◌, nat_eq, cond, arith, sym, ap, ◌∙◌, refl, subst}
 use Rattle.std.specs.Char.Escape.{encode_utf16}
 use Rattle.std.specs.List.{list_any}
 use Rattle.std.specs.Str.{chars, IsUtf8}
+use Rattle.std.proofs.lemmas.Bool.{or_parts}
 use Rattle.std.proofs.lemmas.Bool.Decides.{nat_tests}
 use lib.Utf8.{encode}
 use Rattle.json_text.specs.Units.{units_of}
@@ -36,14 +37,10 @@ one_units c bs h e = ap units_of e ∙ (one_text c h).units_are ∙ append-nil (
 
 -- ---- counts
 
-neither : (a b : Bool) → (a || b) ≡ false → (a ≡ false) × (b ≡ false)
-neither true b e = absurd (true≢false e)
-neither false b e = (refl, e)
-
 count_none : (cs : List ℕ) → list_any is_surrogate cs ≡ false → surrogate_count cs ≡ 0
 count_none [] e = refl
 count_none (c ∷ cs) e =
-    let n = neither (is_surrogate c) (list_any is_surrogate cs) e in
+    let n = or_parts (is_surrogate c) (list_any is_surrogate cs) e in
     ap (λ (b : Bool). cond b 1 0 + surrogate_count cs) n.0 ∙ zero_and (surrogate_count cs) (count_none cs n.1)
   where
     zero_and : (n : ℕ) → n ≡ 0 → 0 + n ≡ 0

@@ -3,17 +3,19 @@ use Rattle.std.proofs.Common.{◌≡◌, ℕ, ◌<◌, ◌≤◌, ◌+◌, ◌-�
 use Rattle.std.specs.Char.Escape.{encode_utf16}
 use Rattle.std.specs.Str.{chars}
 use Rattle.std.proofs.Math.Seq.{take-append_seam, drop-append_seam}
+use Rattle.std.proofs.lemmas.Bool.{and_parts}
 use Rattle.std.proofs.lemmas.Bool.Decides.{nat_tests}
-use Rattle.std.proofs.lemmas.Str.{length-encode, len_utf8_bounds}
+use Rattle.std.proofs.lemmas.Grind.{flat_map-append}
+use Rattle.std.proofs.lemmas.Str.{encodes-append, length-le-encodes}
 use lib.Utf8.{encode, encodes}
 use Rattle.json_text.specs.Strings.{is_lead, is_trail}
 use Rattle.json_text.specs.Units.{units_of}
+use Rattle.oxc_estree.proofs.Units.{no_lead, no_trail, low_units, high_units}
 use Rattle.oxc_str.specs.Wtf8.{is_surrogate, IsWtf8}
 use Rattle.oxc_str.specs.Wtf8Buffer.{surrogate_count, last_or_0, IsCounted, StandApart, JoinTo}
 use Rattle.oxc_str.proofs.CodePoints.{AreCodePoints, AreCodePoints-append, three, chars-of_encodes}
-use Rattle.oxc_str.proofs.CodeUnits.{both, Unsplit, is_pair, lead_range, trail_range, no_lead, no_trail, no_pair_by_lead, no_pair_by_trail, one_unit, two_units}
+use Rattle.oxc_str.proofs.CodeUnits.{Unsplit, is_pair, lead_range, trail_range, no_pair_by_lead, no_pair_by_trail}
 use Rattle.oxc_str.proofs.Canonical.{Points, points, IsWtf8-points}
-use Rattle.oxc_str.proofs.Backwards.{encodes-append}
 
 -- ---- lists of code points
 
@@ -30,10 +32,6 @@ Unsplit-before (c ∷ d ∷ cs) ds p = (p.0, Unsplit-before (d ∷ cs) ds p.1)
 AreCodePoints-before : (cs ds : List ℕ) → AreCodePoints (cs ++ ds) → AreCodePoints cs
 AreCodePoints-before [] ds a = tt
 AreCodePoints-before (c ∷ cs) ds a = (a.0, AreCodePoints-before cs ds a.1)
-
-units-append : (cs ds : List ℕ) → flat_map encode_utf16 (cs ++ ds) ≡ flat_map encode_utf16 cs ++ flat_map encode_utf16 ds
-units-append [] ds = refl
-units-append (c ∷ cs) ds = ap (λ (l : List ℕ). encode_utf16 c ++ l) (units-append cs ds) ∙ sym (append_assoc (encode_utf16 c) (flat_map encode_utf16 cs) (flat_map encode_utf16 ds))
 
 surrogate_count-append : (cs ds : List ℕ) → surrogate_count (cs ++ ds) ≡ surrogate_count cs + surrogate_count ds
 surrogate_count-append [] ds = omega arith
@@ -69,7 +67,7 @@ apart b v m n p w k s =
     }) in
     record {
       is = record { text = t.text; counted = ap₂ (λ (i j : ℕ). i + j) p.counted k ∙ sym (surrogate_count-append (chars b) (chars v)) ∙ ap surrogate_count (sym t.chars_are) };
-      units_are = t.units_are ∙ units-append (chars b) (chars v);
+      units_are = t.units_are ∙ flat_map-append encode_utf16 (chars b) (chars v);
     }
 
 -- ---- a pair at the seam
@@ -98,7 +96,7 @@ pub joined_seam : (b v : List ℕ) (m n c : ℕ) → IsCounted b m → IsWtf8 v 
 joined_seam b v m n c p w k j =
     let x = subst (Points b) j.ends (points b p.text) in
     let y = subst (Points v) j.begins (points v w) in
-    let pairs = both (is_lead j.lead) (is_trail j.trail) j.pairs in
+    let pairs = and_parts (is_lead j.lead) (is_trail j.trail) j.pairs in
     let h = lead_range j.lead pairs.0 in
     let t = trail_range j.trail pairs.1 in
     let h_bytes = three_bytes j.lead h.0 (omega (arith, h.1)) in
@@ -116,10 +114,10 @@ joined_seam b v m n c p w k j =
       unsplit = Unsplit-append j.front (c ∷ j.back) (Unsplit-before j.front (j.lead ∷ []) x.unsplit) (no_pair_by_lead c (get_or j.back 0 0) (no_lead c (inr (omega arith))), y.unsplit.1) (no_pair_by_trail (last_or_0 j.front) c (no_trail c (inr (omega arith))));
       bytes_are = encodes-append j.front (c ∷ j.back) ∙ ap₂ (λ (l r : List ℕ). l ++ (encode c ++ r)) (sym before) (sym after);
     }) in
-    let b_units : units_of b ≡ flat_map encode_utf16 j.front ++ j.lead ∷ [] = (text_of_points b _ x).units_are ∙ units-append j.front (j.lead ∷ []) ∙ ap (λ (l : List ℕ). flat_map encode_utf16 j.front ++ (l ++ [])) (one_unit j.lead (omega (arith, h.1))) in
-    let v_units : units_of v ≡ j.trail ∷ flat_map encode_utf16 j.back = (text_of_points v _ y).units_are ∙ ap (λ (l : List ℕ). l ++ flat_map encode_utf16 j.back) (one_unit j.trail (omega (arith, t.1))) in
-    let pair : encode_utf16 c ≡ j.lead ∷ j.trail ∷ [] = two_units c low ∙ ap₂ (λ (i k' : ℕ). i ∷ k' ∷ []) first second in
-    let z_units : flat_map encode_utf16 (j.front ++ c ∷ j.back) ≡ flat_map encode_utf16 j.front ++ (j.lead ∷ j.trail ∷ flat_map encode_utf16 j.back) = units-append j.front (c ∷ j.back) ∙ ap (λ (l : List ℕ). flat_map encode_utf16 j.front ++ (l ++ flat_map encode_utf16 j.back)) pair in
+    let b_units : units_of b ≡ flat_map encode_utf16 j.front ++ j.lead ∷ [] = (text_of_points b _ x).units_are ∙ flat_map-append encode_utf16 j.front (j.lead ∷ []) ∙ ap (λ (l : List ℕ). flat_map encode_utf16 j.front ++ (l ++ [])) (low_units j.lead (omega (arith, h.1))) in
+    let v_units : units_of v ≡ j.trail ∷ flat_map encode_utf16 j.back = (text_of_points v _ y).units_are ∙ ap (λ (l : List ℕ). l ++ flat_map encode_utf16 j.back) (low_units j.trail (omega (arith, t.1))) in
+    let pair : encode_utf16 c ≡ j.lead ∷ j.trail ∷ [] = high_units c low ∙ ap₂ (λ (i k' : ℕ). i ∷ k' ∷ []) first second in
+    let z_units : flat_map encode_utf16 (j.front ++ c ∷ j.back) ≡ flat_map encode_utf16 j.front ++ (j.lead ∷ j.trail ∷ flat_map encode_utf16 j.back) = flat_map-append encode_utf16 j.front (c ∷ j.back) ∙ ap (λ (l : List ℕ). flat_map encode_utf16 j.front ++ (l ++ flat_map encode_utf16 j.back)) pair in
     let lead_counts : is_surrogate j.lead ≡ true = surrogate j.lead h.0 (omega (arith, h.1)) in
     let trail_counts : is_surrogate j.trail ≡ true = surrogate j.trail (omega (arith, t.0)) t.1 in
     let m_is : m ≡ surrogate_count j.front + 1 = p.counted ∙ ap surrogate_count j.ends ∙ surrogate_count-append j.front (j.lead ∷ []) ∙ ap (λ (q : Bool). surrogate_count j.front + (cond q 1 0 + 0)) lead_counts in
@@ -158,11 +156,7 @@ surrogate_count_le (c ∷ cs) = omega (arith, surrogate_count_le cs, at_most_1 (
 pub count_le : (bytes : List ℕ) (count : ℕ) → IsCounted bytes count → count ≤ length bytes
 count_le bytes count k =
     let p = points bytes k.text in
-    omega (arith, k.counted, surrogate_count_le (chars bytes), codes_le (chars bytes) p.codes, ap length p.bytes_are)
-  where
-    codes_le : (cs : List ℕ) → AreCodePoints cs → length cs ≤ length (encodes cs)
-    codes_le [] a = omega arith
-    codes_le (c ∷ cs) a = omega (arith, codes_le cs a.1, length-append (encode c) (encodes cs), length-encode c, (len_utf8_bounds c).0)
+    omega (arith, k.counted, surrogate_count_le (chars bytes), length-le-encodes (chars bytes), ap length p.bytes_are)
 
 -- ---- by the last of these and the first of those
 

@@ -1,8 +1,13 @@
 -- What an `Ident` is to a contract: a text, as bytes of UTF-8, and a stored hash.
+use Rattle.std.specs.Borrow.{Bor}
 use Rattle.std.specs.Prelude.{◌≡◌, ℕ, List}
 use Rattle.oxc_str.specs.declared.ident.Ident.{Ident}
 use Rattle.oxc_str.specs.declared.ident_hasher.IdentHasher.{IdentHasher}
 use Rattle.oxc_str.specs.IdentHash.{ident_hash}
+
+-- the text, and where it lies
+abbrev pub ident_text_at : Ident → Bor (List ℕ)
+ident_text_at i = i.text
 
 abbrev pub ident_text : Ident → List ℕ
 ident_text i = i.text.now

@@ -35,6 +35,10 @@ pub record PassesAtEnd (passes : ℕ → Type 0) (bytes : List ℕ) : Type 0 whe
   pub scalar : IsScalar char
   pub passing : passes char
 
+-- for no character does a test by `post` answer both true and false
+abbrev pub IsOneAnswer : (ℕ → Bool → Type 0) → Type 0
+IsOneAnswer post = (c : ℕ) → IsScalar c → post c true → post c false → ⊥
+
 -- what a test by `post` answers for a code point: what it gives for a character, and false for a surrogate
 abbrev pub Answers : (ℕ → Bool → Type 0) → ℕ → Bool → Type 0
 Answers post c r = MatchBool r (IsScalar c × post c true) (IsScalar c → post c false)

@@ -1,3 +1,4 @@
+pub mod Borrowed
 pub mod Equality
 pub mod Ident
 pub mod IdentHash

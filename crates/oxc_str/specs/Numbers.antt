@@ -1,6 +1,6 @@
 -- A list that gives its first item at each call gives them all.
 use Rattle.std.specs.Iterator.{AlwaysYields, YieldsFirst}
-use Rattle.std.specs.Prelude.{◌≡◌, ℕ, List, [], ◌∷◌}
+use Rattle.std.specs.Prelude.{ℕ, List, [], ◌∷◌}
 use Rattle.std.proofs.Common.{sym, ap, subst}
 
 abbrev IsNil : List ℕ → Type 0

@@ -7,7 +7,8 @@ ghost use Rattle.std.proofs.Common.{rules};
 ghost use Rattle.json_text.specs.Json.{string};
 ghost use Rattle.json_text.specs.Units.{units_of};
 ghost use Rattle.oxc_estree.specs.Out.{plain};
-ghost use Rattle.oxc_str.specs.Ident.{ident_text, stored_hash, IsHashed, IsUnhashed};
+ghost use Rattle.oxc_str.specs.Borrowed.{IsWhatItBorrows};
+ghost use Rattle.oxc_str.specs.Ident.{ident_text, ident_text_at, stored_hash, IsHashed, IsUnhashed};
 ghost use Rattle.oxc_str.specs.JSStr.{js_bytes};
 ghost use Rattle.oxc_str.specs.Str.{text_of};
 
@@ -29,9 +30,10 @@ pub struct Ident<'a> {
     hash: u32,
 }
 
-/// The identifier of the text `s`, with its hash.
+/// The identifier of the text `s`, which is not copied, with its hash.
 pub fn new_const_ident<'a>(s: &'a str) -> Ident<'a>
     ensures text { ident_text result ≡ s.now }
+    ensures not_copied { ident_text_at result ≡ s.entry }
     ensures hashed { IsHashed result }
 {
     Ident {
@@ -41,10 +43,11 @@ pub fn new_const_ident<'a>(s: &'a str) -> Ident<'a>
 }
 
 impl<'a> Ident<'a> {
-    /// The identifier of the text `s`, whose stored hash is 0. It equals one with its hash only where
-    /// that hash is 0.
+    /// The identifier of the text `s`, which is not copied, with the stored hash 0. It equals one with
+    /// its hash only where that hash is 0.
     pub fn new_unhashed(s: &'a str) -> Self
         ensures text { ident_text result ≡ s.now }
+        ensures not_copied { ident_text_at result ≡ s.entry }
         ensures unhashed { IsUnhashed result }
     {
         Ident { text: s, hash: 0 }
@@ -73,10 +76,11 @@ impl<'a> Ident<'a> {
     }
 
     /// The identifier of the text of `value`, with its hash. Only an owned text is copied into the
-    /// arena: a borrowed one is never refused.
+    /// arena: a borrowed one is answered with where it lies, and never refused.
     pub fn from_cow_in(arena: &'a Bump, value: &CowStr<'a>) -> Result<Self, AllocError>
         ensures text { IfOk result (λ text. (ident_text text ≡ cow_str_bytes value.now) × IsHashed text) }
         ensures borrowed { IsBorrowedStr value.now → IsOk result }
+        ensures not_copied { IfOk result (λ text. IsWhatItBorrows value.now (ident_text_at text)) }
     {
         match value {
             CowStr::Borrowed(s) => Ok(new_const_ident(*s)),

@@ -15,10 +15,7 @@ fn read_u32(s: &[u8], i: usize) -> u32
     requires { i + 4 ≤ length s.now }
     ensures { result ≡ spec.read_u32 s.now i }
 {
-    u32::from(s[i])
-        + u32::from(s[i + 1]) * 0x100
-        + u32::from(s[i + 2]) * 0x1_0000
-        + u32::from(s[i + 3]) * 0x100_0000
+    u32::from_le_bytes([s[i], s[i + 1], s[i + 2], s[i + 3]])
 }
 
 // The low half of the product, xor its high half.

@@ -1,14 +1,15 @@
 //! Strings as text to be read.
 
 ghost use Rattle.std.specs.Fmt.{WritesOnOk};
-ghost use Rattle.std.specs.Prelude.{◌≡◌, ◌<◌, Some};
+ghost use Rattle.std.specs.Prelude.{◌≡◌, true, Some};
 ghost use Rattle.std.specs.Str.{chars};
-ghost use Rattle.json_text.specs.Strings.{hex_digit, unit_escape};
+ghost use Rattle.json_text.specs.Strings.{unit_escape};
 ghost use Rattle.oxc_str.specs.JSStr.{js_bytes};
 ghost use Rattle.oxc_str.specs.JSStrDisplay.{shown, shown_char, shown_string};
+ghost use Rattle.oxc_str.specs.Wtf8.{is_surrogate};
 
 use crate::{JSChar, JSStr};
-use std::{fmt, str};
+use std::fmt;
 
 /// Shows a [`JSStr`]: each character as it is, and each surrogate that stands alone as `\u` and four
 /// hexadecimal digits in lower case. It is for people: two strings may be shown alike.
@@ -48,29 +49,8 @@ fn write_char<W: fmt::Write>(c: JSChar, f: &mut fmt::Formatter<W>) -> fmt::Resul
 }
 
 fn write_escape<W: fmt::Write>(unit: u32, f: &mut fmt::Formatter<W>) -> fmt::Result
-    requires { unit < 65536 }
+    requires { is_surrogate unit ≡ true }
     ensures { WritesOnOk W.write_str_gives f.old result (unit_escape unit) f.new }
 {
-    let escape = [
-        b'\\',
-        b'u',
-        hex_byte(unit / 0x1000),
-        hex_byte(unit / 0x100 % 0x10),
-        hex_byte(unit / 0x10 % 0x10),
-        hex_byte(unit % 0x10),
-    ];
-    // ASCII is UTF-8.
-    f.write_str(unsafe { str::from_utf8_unchecked(&escape) })
-}
-
-fn hex_byte(digit: u32) -> u8
-    requires { digit < 16 }
-    ensures value { result ≡ hex_digit digit }
-    ensures ascii { result < 128 }
-{
-    if digit < 10 {
-        48 + digit as u8
-    } else {
-        87 + digit as u8
-    }
+    write!(f, "\\u{unit:04x}")
 }

@@ -3,9 +3,10 @@
 ghost use Rattle.std.specs.Prelude.{◌≡◌, ◌↔◌, ℕ, Bool, List, true, false, ⊤, encode_utf8, IsSome, IsTrue};
 ghost use Rattle.memchr.specs.Find.{OccursAt};
 ghost use Rattle.oxc_str.specs.JSStr.{js_bytes};
-ghost use Rattle.oxc_str.specs.JSStrPattern.{Answers, IsGreatest, IsLeast, OccursAtEnd, PassesAt, PassesAtEnd};
+ghost use Rattle.oxc_str.specs.JSStrPattern.{Answers, IsGreatest, IsLeast, IsOneAnswer, OccursAtEnd, PassesAt, PassesAtEnd};
 
 use crate::{JSChar, JSStr};
+use memchr::arch::all::{is_prefix, is_suffix};
 use memchr::memmem;
 
 /// What can be looked for in a [`JSStr`]: a [`Text`], a `char`, or a [`Pred`]. Offsets count the bytes
@@ -44,7 +45,10 @@ pub trait JSStrPattern {
 
 /// A text to be looked for.
 #[derive(Clone, Copy, Debug)]
-pub struct Text<'p>(pub &'p str);
+pub struct Text<'p>(
+    /// The text.
+    pub &'p str,
+);
 
 impl<'p> JSStrPattern for Text<'p> {
     ghost matches_at = { λ p bytes k. OccursAt bytes p.0.now k };
@@ -64,7 +68,7 @@ impl<'p> JSStrPattern for Text<'p> {
     }
 
     fn is_prefix_of(self, haystack: JSStr<'_>) -> bool {
-        begins_with_bytes(haystack.as_bytes(), self.0.as_bytes())
+        is_prefix(haystack.as_bytes(), self.0.as_bytes())
     }
 
     fn is_suffix_of(self, haystack: JSStr<'_>) -> bool {
@@ -100,7 +104,7 @@ impl JSStrPattern for char {
 
     fn is_prefix_of(self, haystack: JSStr<'_>) -> bool {
         let mut buffer = [0; char::MAX_LEN_UTF8];
-        begins_with_bytes(
+        is_prefix(
             haystack.as_bytes(),
             self.encode_utf8(&mut buffer).as_bytes(),
         )
@@ -127,25 +131,19 @@ fn rfind_bytes(haystack: &[u8], needle: &[u8]) -> Option<usize>
     memmem::rfind(haystack, needle)
 }
 
-fn begins_with_bytes(haystack: &[u8], needle: &[u8]) -> bool
-    ensures { IsTrue result ↔ OccursAt haystack.now needle.now 0 }
-{
-    needle.len() <= haystack.len() && &haystack[..needle.len()] == needle
-}
-
 fn ends_with_bytes(haystack: &[u8], needle: &[u8]) -> bool
     ensures { IsTrue result ↔ OccursAtEnd haystack.now needle.now }
 {
-    if haystack.len() < needle.len() {
-        return false;
-    }
-    let (_, end) = haystack.split_at(haystack.len() - needle.len());
-    end == needle
+    is_suffix(haystack, needle)
 }
 
-/// A test of characters. It isn't called for a lone surrogate.
+/// A test of characters, which can be called at any time and answers one character always alike. It
+/// isn't called for a lone surrogate.
 #[derive(Drop)]
-pub struct Pred<F>(pub F);
+pub struct Pred<F>(
+    /// The test.
+    pub F,
+);
 
 impl<F: Fn(char) -> bool + Drop> JSStrPattern for Pred<F> {
     ghost matches_at = { λ p bytes k. PassesAt (λ c. F.post p.0 c true) bytes k };
@@ -155,7 +153,7 @@ impl<F: Fn(char) -> bool + Drop> JSStrPattern for Pred<F> {
     ghost matches_end = { λ p bytes. PassesAtEnd (λ c. F.post p.0 c true) bytes };
 
     // It may be called at any time, and answers the same for one character.
-    ghost callable = { λ p. F.IsAlwaysCallable p.0 × ((c : ℕ) → F.post p.0 c true → F.post p.0 c false → ⊥) };
+    ghost callable = { λ p. F.IsAlwaysCallable p.0 × IsOneAnswer (F.post p.0) };
 
     fn find_in(self, haystack: JSStr<'_>) -> Option<usize> {
         let mut offset = 0;

@@ -2,7 +2,7 @@
 
 ghost use Rattle.std.specs.List.{fold};
 ghost use Rattle.std.specs.Prelude.{◌≡◌, ◌↔◌, IsTrue};
-ghost use Rattle.oxc_str.specs.Equality.{ComparesBy};
+ghost use Rattle.oxc_str.specs.Equality.{ComparesBy, DecidesEquality};
 ghost use Rattle.oxc_str.specs.Ident.{ident_text, stored_hash, IsHashed, IsUnhashed};
 ghost use Rattle.oxc_str.specs.IdentHash as spec;
 ghost use Rattle.oxc_str.specs.JSStr.{js_units};
@@ -12,7 +12,7 @@ ghost use Rattle.oxc_str.specs.declared.ident.Ident.{Ident as IdentValue};
 ghost use Rattle.oxc_str.specs.declared.js_str.JSStr.{JSStr as StringValue};
 ghost use Rattle.oxc_str.specs.declared.ident_hasher.IdentHasher.{IdentHasher as HasherState};
 
-use crate::{CompactStr, Ident, IdentHasher, JSStr, JSText, Str};
+use crate::{CompactStr, Ident, IdentHasher, JSChar, JSStr, JSText, Str};
 use std::hash::{Hash, Hasher};
 
 /// Two [`Str`]s are equal exactly where their texts are.
@@ -22,7 +22,7 @@ pub fn strs_compare_by_text()
 
 /// Two [`CompactStr`]s are equal exactly where their texts are.
 pub fn compact_strs_compare_by_text()
-    ensures { ComparesBy (λ s. s) ⟦<CompactStr as PartialEq>⟧.eq }
+    ensures { DecidesEquality ⟦<CompactStr as PartialEq>⟧.eq }
 {}
 
 /// Two [`Ident`]s are equal exactly where their texts and stored hashes are.
@@ -53,6 +53,11 @@ pub fn bytes_give_units_back()
     ensures { BytesGiveUnitsBack }
 {}
 
+/// Two [`JSChar`]s are equal exactly where their numbers are.
+pub fn js_chars_compare_by_number()
+    ensures { DecidesEquality ⟦<JSChar as PartialEq>⟧.eq }
+{}
+
 /// Two [`JSStr`]s are equal exactly where their code units are.
 pub fn js_strs_compare_by_units()
     ensures { ComparesBy js_units ⟦<JSStr<'static> as PartialEq>⟧.eq }
@@ -65,7 +70,7 @@ pub fn equal_js_strs_hash_alike()
 
 /// Two [`JSText`]s are equal exactly where their code units are.
 pub fn js_texts_compare_by_units()
-    ensures { ComparesBy (λ t. t) ⟦<JSText as PartialEq>⟧.eq }
+    ensures { DecidesEquality ⟦<JSText as PartialEq>⟧.eq }
 {}
 
 /// The code points that bytes of WTF-8 spell, which [`JSStr::chars`] gives, are those of the code units:

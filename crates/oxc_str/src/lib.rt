@@ -23,8 +23,6 @@ pub mod js_str_pattern;
 pub mod js_text;
 pub mod laws;
 pub mod str;
-#[cfg(test)]
-mod tests;
 pub mod wtf8;
 mod wtf8_buffer;
 

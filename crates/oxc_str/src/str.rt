@@ -5,7 +5,8 @@ ghost use Rattle.std.specs.Prelude.{◌≡◌, ◌++◌, [], string_bytes, IfOk,
 ghost use Rattle.json_text.specs.Json.{string};
 ghost use Rattle.json_text.specs.Units.{units_of};
 ghost use Rattle.oxc_estree.specs.Out.{plain};
-ghost use Rattle.oxc_str.specs.Str.{text_of};
+ghost use Rattle.oxc_str.specs.Borrowed.{IsWhatItBorrows};
+ghost use Rattle.oxc_str.specs.Str.{text_at, text_of};
 
 use crate::CompactStr;
 use arena_core::{alloc_str, concat_strs};
@@ -27,7 +28,8 @@ pub type ArenaStr<'a> = Str<'a>;
 impl<'a> Str<'a> {
     /// The text of `s`, which is not copied.
     pub fn new_const(s: &'a str) -> Self
-        ensures { text_of result ≡ s.now }
+        ensures text { text_of result ≡ s.now }
+        ensures not_copied { text_at result ≡ s.entry }
     {
         Str { text: s }
     }
@@ -57,10 +59,12 @@ impl<'a> Str<'a> {
         })
     }
 
-    /// The text of `value`. Only an owned text is copied into the arena: a borrowed one is never refused.
+    /// The text of `value`. Only an owned text is copied into the arena: a borrowed one is answered with
+    /// where it lies, and never refused.
     pub fn from_cow_in(arena: &'a Bump, value: &CowStr<'a>) -> Result<Self, AllocError>
         ensures text { IfOk result (λ text. text_of text ≡ cow_str_bytes value.now) }
         ensures borrowed { IsBorrowedStr value.now → IsOk result }
+        ensures not_copied { IfOk result (λ text. IsWhatItBorrows value.now (text_at text)) }
     {
         match value {
             CowStr::Borrowed(s) => Ok(Str { text: *s }),

@@ -1,0 +1,88 @@
+use bumpalo::Bump;
+use oxc_estree::{CompactFormatter, ConfigFixes, ESTree, ESTreeSerializer};
+use oxc_str::{
+    ArenaIdentHashMap, ArenaIdentHashSet, Ident, IdentBuildHasher, IdentHashMap, IdentHashSet, Str,
+    ident_hash, new_const_ident,
+};
+use std::alloc::Global;
+use std::borrow::CowStr;
+use std::collections::{HashMap, HashSet};
+use std::hash::{BuildHasher, Hash, Hasher};
+use std::test::Fail;
+
+// A text, the hash of its bytes and the state that they leave, as a script outside the crate computes them.
+const HASHES: [(&str, u32, u64); 8] = [
+    ("", 0, 0),
+    ("x", 0xA772_3236, 0xA772_3236_A773_3236),
+    ("foo", 0x2C4D_F0CB, 0x2C4D_F0CB_2C4E_F0CB),
+    ("this", 0xA950_64E1, 0xA950_64E1_A954_64E1),
+    ("document", 0x336F_9137, 0x336F_9137_3367_9137),
+    ("arguments", 0xE637_8156, 0xE637_8156_E63E_8156),
+    ("exportedBindings", 0x9E09_FB6A, 0x9E09_FB6A_9E19_FB6A),
+    ("exportedBindings2", 0xA0D0_AC9E, 0xA0D0_AC9E_A0C1_AC9E),
+];
+
+#[test]
+fn hashes_are_those_computed_elsewhere(rt: HostRuntime) -> Result<(), Fail> {
+    for (text, hash, state) in HASHES {
+        assert_eq!(rt; ident_hash(text.as_bytes()), hash);
+        let mut hasher = IdentBuildHasher.build_hasher();
+        assert_eq!(rt; hasher.finish(), 0);
+        new_const_ident(text).hash(&mut hasher);
+        assert_eq!(rt; hasher.finish(), state);
+        hasher.write(text.as_bytes());
+        assert_eq!(rt; hasher.finish(), state);
+    }
+    Ok(())
+}
+
+#[test]
+fn an_ident_is_its_text_and_hash(rt: HostRuntime) -> Result<(), Fail> {
+    let alloc: Global = rt.alloc();
+    let arena = Bump::new(alloc);
+    let ab = new_const_ident("ab");
+    assert_eq!(rt; ab.as_str(), "ab");
+    assert!(rt; ab.as_arena_str() == Str::new_const("ab"));
+    assert!(rt; Ident::empty() == new_const_ident(""));
+    assert!(rt; Ident::new_unhashed("ab") != ab && Ident::new_unhashed("") == Ident::empty());
+    assert!(rt; Ident::from_str_in(&arena, "ab")? == ab);
+    assert!(rt; Ident::from_strs2_in(&arena, "a", "b")? == ab);
+    let borrowed: CowStr = CowStr::Borrowed("ab");
+    assert!(rt; Ident::from_cow_in(&arena, &borrowed)? == ab);
+    let owned = CowStr::Owned(ab.into_string(alloc)?);
+    assert!(rt; Ident::from_cow_in(&arena, &owned)? == ab);
+    assert_eq!(rt; ab.into_compact_str(alloc)?.as_str(), "ab");
+    assert_eq!(rt; ab.to_compact_str(alloc)?.as_str(), "ab");
+    let shown = format!(in alloc; "{ab}")?;
+    assert_eq!(rt; shown.as_str(), "ab");
+    let mut serializer: ESTreeSerializer<ConfigFixes, CompactFormatter> = ESTreeSerializer::new(
+        alloc, false, false,
+    )?;
+    ab.serialize(&mut serializer)?;
+    let text = serializer.into_string();
+    assert_eq!(rt; text.as_str(), "\"ab\"");
+    Ok(())
+}
+
+#[test]
+fn idents_are_keys(rt: HostRuntime) -> Result<(), Fail> {
+    let alloc: Global = rt.alloc();
+    let arena = Bump::new(alloc);
+    let mut counts: IdentHashMap<'_, u32> = HashMap::with_hasher(alloc, IdentBuildHasher);
+    counts.insert(new_const_ident("a"), 1)?;
+    counts.insert(new_const_ident("a"), 2)?;
+    assert_eq!(rt; counts.get(&new_const_ident("a")).copied(), Some(2));
+    let mut arena_counts: ArenaIdentHashMap<'_, u32> = HashMap::with_hasher(
+        &arena,
+        IdentBuildHasher,
+    );
+    arena_counts.insert(new_const_ident("a"), 1)?;
+    assert_eq!(rt; arena_counts.len(), 1);
+    let mut names: IdentHashSet<'_> = HashSet::with_hasher(alloc, IdentBuildHasher);
+    names.insert(new_const_ident("a"))?;
+    assert!(rt; names.contains(&new_const_ident("a")));
+    let mut arena_names: ArenaIdentHashSet<'_> = HashSet::with_hasher(&arena, IdentBuildHasher);
+    arena_names.insert(new_const_ident("a"))?;
+    assert!(rt; !arena_names.contains(&new_const_ident("b")));
+    Ok(())
+}

@@ -1,0 +1,11 @@
+//! Tests of `oxc_str`, by its public calls.
+#![tactic(auto)]
+
+#[cfg(test)]
+mod idents;
+#[cfg(test)]
+mod patterns;
+#[cfg(test)]
+mod strings;
+#[cfg(test)]
+mod texts;
