@@ -55,7 +55,7 @@ spells c us s = ⊎_elim short long (cases_lt c 65536)
         rw (encode_utf16-long c h)
         (utf16_chars_pair _ _ us (omega arith, omega arith, omega arith, omega arith) ∙ ap (λ (d : ℕ). Some d ∷ utf16_chars us) same)
 
-AreCodeUnits-append : (us vs : List ℕ) → AreCodeUnits us → AreCodeUnits vs → AreCodeUnits (us ++ vs)
+pub AreCodeUnits-append : (us vs : List ℕ) → AreCodeUnits us → AreCodeUnits vs → AreCodeUnits (us ++ vs)
 AreCodeUnits-append [] vs a b = b
 AreCodeUnits-append (u ∷ us) vs a b = (a.0, AreCodeUnits-append us vs a.1 b)
 

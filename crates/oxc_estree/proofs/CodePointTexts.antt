@@ -9,7 +9,8 @@ use Rattle.std.specs.Iterator.{Count}
 use Rattle.std.specs.Option.{ForSome}
 use Rattle.json_text.specs.Strings.{char_text, flush, is_lead, is_trail, joined, quoted_units, unit_text, units_text, waits}
 use Rattle.oxc_estree.specs.CodePoints.{Gives, point_char, point_text, point_units, points_units}
-use Rattle.oxc_estree.proofs.Units.{high_text, high_units, lead, low_units, no_lead, no_trail, trail}
+use Rattle.json_text.proofs.Units.{encode_utf16-long, encode_utf16-short}
+use Rattle.oxc_estree.proofs.Units.{high_text, lead, no_lead, no_trail, trail}
 
 unit_text-point : (p : Option ℕ) (c : ℕ) → c < 65536 → unit_text p c ≡ point_text p c
 unit_text-point p c h = by_tests (is_lead c) (is_trail c) refl refl
@@ -24,7 +25,7 @@ unit_text-point p c h = by_tests (is_lead c) (is_trail c) refl refl
 
 low_point : (p : Option ℕ) (c : ℕ) (us : List ℕ) → c < 65536 → units_text p (point_units c ++ us) ≡ point_text p c ++ units_text (waits c) us
 low_point p c us h =
-    let is : point_units c ≡ c ∷ [] = let k : nat_lt c 0x110000 ≡ true = grind (arith, nat_tests) in ap (λ u. cond u (encode_utf16 c) (0xfffd ∷ [])) k ∙ low_units c h in
+    let is : point_units c ≡ c ∷ [] = let k : nat_lt c 0x110000 ≡ true = grind (arith, nat_tests) in ap (λ u. cond u (encode_utf16 c) (0xfffd ∷ [])) k ∙ encode_utf16-short c h in
     ap (λ (t : List ℕ). units_text p (t ++ us)) is ∙ ap (λ (t : List ℕ). t ++ units_text (waits c) us) (unit_text-point p c h)
 
 pair_text : (p : Option ℕ) (h t : ℕ) (us : List ℕ) → is_lead h ≡ true → is_lead t ≡ false → is_trail t ≡ true →
@@ -49,7 +50,7 @@ high_point p c us h s =
     let b : is_trail c ≡ false = no_trail c (inr (omega arith)) in
     let char : point_char c ≡ c = let k : nat_le 0x110000 c ≡ false = grind (arith, nat_tests) in rw (a, b, k) refl in
     let is : point_units c ≡ (55296 + x / 1024) ∷ (56320 + x % 1024) ∷ [] =
-    let k : nat_lt c 0x110000 ≡ true = grind (arith, nat_tests) in ap (λ u. cond u (encode_utf16 c) (0xfffd ∷ [])) k ∙ high_units c h in
+    let k : nat_lt c 0x110000 ≡ true = grind (arith, nat_tests) in ap (λ u. cond u (encode_utf16 c) (0xfffd ∷ [])) k ∙ encode_utf16-long c h in
     ap (λ (t : List ℕ). units_text p (t ++ us)) is
     ∙ pair_text p (55296 + x / 1024) (56320 + x % 1024) us (lead (55296 + x / 1024) (omega arith) (omega arith))
     (no_lead (56320 + x % 1024) (inr (omega arith))) (trail (56320 + x % 1024) (omega arith) (omega arith))

@@ -4,6 +4,7 @@ use Rattle.std.proofs.lemmas.Bool.{and_parts, cases_lt}
 use Rattle.std.proofs.lemmas.Bool.Decides.{nat_tests}
 use Rattle.std.proofs.Math.Utf8.{scalar, scalars}
 use Rattle.std.specs.Char.Escape.{encode_utf16}
+use Rattle.json_text.proofs.Units.{encode_utf16-long, encode_utf16-short}
 use Rattle.json_text.specs.Strings.{is_lead, is_trail, units_text, char_text, joined}
 use lib.Utf8.{scalar_cases}
 
@@ -22,12 +23,6 @@ trail c a b = grind (arith, nat_tests)
 pub high_text : (c : ℕ) → 65536 ≤ c → char_text c ≡ encode_utf8 c
 high_text c h = grind (arith, nat_tests)
 
-pub low_units : (c : ℕ) → c < 65536 → encode_utf16 c ≡ c ∷ []
-low_units c h = grind (arith, nat_tests)
-
-pub high_units : (c : ℕ) → 65536 ≤ c → encode_utf16 c ≡ (55296 + (c - 65536) / 1024) ∷ (56320 + (c - 65536) % 1024) ∷ []
-high_units c h = grind (arith, nat_tests)
-
 low_step : (c : ℕ) (us : List ℕ) → is_lead c ≡ false → is_trail c ≡ false → units_text None (c ∷ us) ≡ char_text c ++ units_text None us
 low_step c us a b = rw (a, b) refl
 
@@ -40,7 +35,7 @@ low_case : (c : ℕ) (us cs : List ℕ) → (c < 55296) ⊎ ((57344 ≤ c) × (c
 low_case c us cs s h e =
     let a = no_lead c (⊎_elim (λ (k : c < 55296). inl k) (λ (k : (57344 ≤ c) × (c < 1114112)). inr (omega arith)) s) in
     let b = no_trail c (⊎_elim (λ (k : c < 55296). inl (omega arith)) (λ (k : (57344 ≤ c) × (c < 1114112)). inr k.0) s) in
-    ap (λ (t : List ℕ). units_text None (t ++ us)) (low_units c h) ∙ low_step c us a b ∙ ap (λ (t : List ℕ). char_text c ++ t) e
+    ap (λ (t : List ℕ). units_text None (t ++ us)) (encode_utf16-short c h) ∙ low_step c us a b ∙ ap (λ (t : List ℕ). char_text c ++ t) e
 
 high_case : (c : ℕ) (us cs : List ℕ) → c < 1114112 → 65536 ≤ c → units_text None us ≡ flat_map char_text cs →
     units_text None (encode_utf16 c ++ us) ≡ char_text c ++ flat_map char_text cs
@@ -50,7 +45,7 @@ high_case c us cs s h e =
     let rest : x % 1024 < 1024 = omega arith in
     let whole : 1024 * (x / 1024) + x % 1024 ≡ x = omega arith in
     let j : joined (55296 + x / 1024) (56320 + x % 1024) ≡ c = omega arith in
-    ap (λ (t : List ℕ). units_text None (t ++ us)) (high_units c h)
+    ap (λ (t : List ℕ). units_text None (t ++ us)) (encode_utf16-long c h)
     ∙ high_step (55296 + x / 1024) (56320 + x % 1024) us (lead (55296 + x / 1024) (omega arith) (omega arith))
     (no_lead (56320 + x % 1024) (inr (omega arith))) (trail (56320 + x % 1024) (omega arith) (omega arith))
     ∙ ap (λ (k : ℕ). encode_utf8 k ++ units_text None us) j

@@ -6,13 +6,10 @@ use Rattle.std.proofs.lemmas.Bool.{and_parts, cases_lt}
 use Rattle.std.proofs.lemmas.Bool.Decides.{nat_tests}
 use Rattle.json_text.specs.Strings.{is_lead, is_trail, joined}
 use Rattle.json_text.specs.HasText.{AreCodeUnits}
-use Rattle.oxc_estree.proofs.Units.{no_lead, no_trail, low_units, high_units}
+use Rattle.json_text.proofs.Units.{AreCodeUnits-append, encode_utf16-long, encode_utf16-short}
+use Rattle.oxc_estree.proofs.Units.{no_lead, no_trail}
 use Rattle.oxc_str.specs.Wtf8.{code_points}
 use Rattle.oxc_str.proofs.CodePoints.{IsCodePoint, AreCodePoints}
-
-pub AreCodeUnits-append : (us vs : List ℕ) → AreCodeUnits us → AreCodeUnits vs → AreCodeUnits (us ++ vs)
-AreCodeUnits-append [] vs a b = b
-AreCodeUnits-append (u ∷ us) vs a b = (a.0, AreCodeUnits-append us vs a.1 b)
 
 -- ---- leads and trails
 
@@ -75,7 +72,7 @@ spelled_pair u v us cs p s =
     record {
       codes = (top, s.codes);
       unsplit = (no_pair_by_lead c (get_or cs 0 0) (no_lead c (inr (omega arith))), s.unsplit);
-      back = rw (high_units c long, first, second, s.back) refl;
+      back = rw (encode_utf16-long c long, first, second, s.back) refl;
       head = no_trail c (inr (omega arith)) ∙ sym (no_trail u (inl low));
     }
 
@@ -83,7 +80,7 @@ spelled_alone : (u : ℕ) (us cs : List ℕ) → u < 65536 → is_pair u (get_or
 spelled_alone u us cs h p s = record {
   codes = (omega arith, s.codes);
   unsplit = (ap (λ (b : Bool). is_lead u && b) s.head ∙ p, s.unsplit);
-  back = rw (low_units u h, s.back) refl;
+  back = rw (encode_utf16-short u h, s.back) refl;
   head = refl;
 }
 
@@ -107,10 +104,10 @@ spelled (u ∷ v ∷ us) a = by_pair u v us (is_pair u v) refl a.0 (spelled us a
 head_units : (cs : List ℕ) → AreCodePoints cs → is_trail (get_or (flat_map encode_utf16 cs) 0 0) ≡ is_trail (get_or cs 0 0)
 head_units [] a = refl
 head_units (c ∷ cs) a = ⊎_elim
-    (λ (h : c < 65536). rw (low_units c h) refl)
+    (λ (h : c < 65536). rw (encode_utf16-short c h) refl)
     (λ (h : 65536 ≤ c).
     let low : 55296 + (c - 65536) / 1024 < 56320 = omega (arith, a.0) in
-    rw (high_units c h) (no_trail _ (inl low) ∙ sym (no_trail c (inr (omega arith)))))
+    rw (encode_utf16-long c h) (no_trail _ (inl low) ∙ sym (no_trail c (inr (omega arith)))))
     (cases_lt c 65536)
 
 joins : (c : ℕ) → 65536 ≤ c → IsCodePoint c → (is_pair (55296 + (c - 65536) / 1024) (56320 + (c - 65536) % 1024) ≡ true) × (joined (55296 + (c - 65536) / 1024) (56320 + (c - 65536) % 1024) ≡ c)
@@ -130,17 +127,17 @@ code_points-of_units (c ∷ cs) a p =
     ⊎_elim
     (λ (h : c < 65536).
     let lone = ap (λ (b : Bool). is_lead c && b) (head_units cs a.1) ∙ p.0 in
-    rw (low_units c h) (code_points_alone c (flat_map encode_utf16 cs) lone ∙ ap (λ (l : List ℕ). c ∷ l) more))
+    rw (encode_utf16-short c h) (code_points_alone c (flat_map encode_utf16 cs) lone ∙ ap (λ (l : List ℕ). c ∷ l) more))
     (λ (h : 65536 ≤ c).
     let j = joins c h a.0 in
-    rw (high_units c h) (code_points_pair _ _ (flat_map encode_utf16 cs) j.0 ∙ ap (λ (d : ℕ). d ∷ code_points (flat_map encode_utf16 cs)) j.1 ∙ ap (λ (l : List ℕ). c ∷ l) more))
+    rw (encode_utf16-long c h) (code_points_pair _ _ (flat_map encode_utf16 cs) j.0 ∙ ap (λ (d : ℕ). d ∷ code_points (flat_map encode_utf16 cs)) j.1 ∙ ap (λ (l : List ℕ). c ∷ l) more))
     (cases_lt c 65536)
 
 pub AreCodeUnits-of_code_points : (cs : List ℕ) → AreCodePoints cs → AreCodeUnits (flat_map encode_utf16 cs)
 AreCodeUnits-of_code_points [] a = tt
 AreCodeUnits-of_code_points (c ∷ cs) a = AreCodeUnits-append (encode_utf16 c) (flat_map encode_utf16 cs)
     (⊎_elim
-    (λ (h : c < 65536). subst AreCodeUnits (sym (low_units c h)) (h, tt))
-    (λ (h : 65536 ≤ c). subst AreCodeUnits (sym (high_units c h)) (omega (arith, a.0), (omega arith, tt)))
+    (λ (h : c < 65536). subst AreCodeUnits (sym (encode_utf16-short c h)) (h, tt))
+    (λ (h : 65536 ≤ c). subst AreCodeUnits (sym (encode_utf16-long c h)) (omega (arith, a.0), (omega arith, tt)))
     (cases_lt c 65536))
     (AreCodeUnits-of_code_points cs a.1)

@@ -5,7 +5,7 @@ use Rattle.std.specs.Str.{chars}
 use Rattle.std.proofs.lemmas.Bool.{cases_lt}
 use lib.Utf8.{encode, encodes}
 use Rattle.json_text.specs.Units.{units_of}
-use Rattle.oxc_estree.proofs.Units.{low_units, high_units}
+use Rattle.json_text.proofs.Units.{encode_utf16-long, encode_utf16-short}
 use Rattle.oxc_str.specs.Wtf8.{IsWtf8}
 use Rattle.oxc_str.proofs.CodePoints.{IsCodePoint, AreCodePoints, Shape, of1, of2, of3, of4, shape}
 use Rattle.oxc_str.proofs.Canonical.{points}
@@ -18,14 +18,14 @@ one_le : (c : ℕ) → IsCodePoint c → length (encode_utf16 c) ≤ length (enc
 one_le c h = by (shape c h)
   where
     short : c < 65536 → 1 ≤ length (encode c) → length (encode_utf16 c) ≤ length (encode c)
-    short k l = omega (arith, ap length (low_units c k))
+    short k l = omega (arith, ap length (encode_utf16-short c k))
 
     by : Shape c → length (encode_utf16 c) ≤ length (encode c)
     by (of1 k e) = short (omega arith) (omega (arith, ap length e))
     by (of2 a b l k f s e) = short (omega (arith, f.1)) (omega (arith, ap length e))
     by (of3 a b d l k f g s e) = short (omega (arith, f.1, g.1)) (omega (arith, ap length e))
     by (of4 a b d x l k f g j s e) = ⊎_elim (λ (m : c < 65536). short m (omega (arith, ap length e)))
-        (λ (m : 65536 ≤ c). omega (arith, ap length e, ap length (high_units c m))) (cases_lt c 65536)
+        (λ (m : 65536 ≤ c). omega (arith, ap length e, ap length (encode_utf16-long c m))) (cases_lt c 65536)
 
 all_le : (cs : List ℕ) → AreCodePoints cs → length (flat_map encode_utf16 cs) ≤ length (encodes cs)
 all_le [] a = omega arith

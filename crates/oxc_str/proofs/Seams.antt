@@ -10,7 +10,8 @@ use Rattle.std.proofs.lemmas.Str.{encodes-append, length-le-encodes}
 use lib.Utf8.{encode, encodes}
 use Rattle.json_text.specs.Strings.{is_lead, is_trail}
 use Rattle.json_text.specs.Units.{units_of}
-use Rattle.oxc_estree.proofs.Units.{no_lead, no_trail, low_units, high_units}
+use Rattle.json_text.proofs.Units.{encode_utf16-long, encode_utf16-short}
+use Rattle.oxc_estree.proofs.Units.{no_lead, no_trail}
 use Rattle.oxc_str.specs.Wtf8.{is_surrogate, IsWtf8}
 use Rattle.oxc_str.specs.Wtf8Buffer.{surrogate_count, last_or_0, IsCounted, StandApart, JoinTo}
 use Rattle.oxc_str.proofs.CodePoints.{AreCodePoints, AreCodePoints-append, three, chars-of_encodes}
@@ -114,9 +115,9 @@ joined_seam b v m n c p w k j =
       unsplit = Unsplit-append j.front (c ∷ j.back) (Unsplit-before j.front (j.lead ∷ []) x.unsplit) (no_pair_by_lead c (get_or j.back 0 0) (no_lead c (inr (omega arith))), y.unsplit.1) (no_pair_by_trail (last_or_0 j.front) c (no_trail c (inr (omega arith))));
       bytes_are = encodes-append j.front (c ∷ j.back) ∙ ap₂ (λ (l r : List ℕ). l ++ (encode c ++ r)) (sym before) (sym after);
     }) in
-    let b_units : units_of b ≡ flat_map encode_utf16 j.front ++ j.lead ∷ [] = (text_of_points b _ x).units_are ∙ flat_map-append encode_utf16 j.front (j.lead ∷ []) ∙ ap (λ (l : List ℕ). flat_map encode_utf16 j.front ++ (l ++ [])) (low_units j.lead (omega (arith, h.1))) in
-    let v_units : units_of v ≡ j.trail ∷ flat_map encode_utf16 j.back = (text_of_points v _ y).units_are ∙ ap (λ (l : List ℕ). l ++ flat_map encode_utf16 j.back) (low_units j.trail (omega (arith, t.1))) in
-    let pair : encode_utf16 c ≡ j.lead ∷ j.trail ∷ [] = high_units c low ∙ ap₂ (λ (i k' : ℕ). i ∷ k' ∷ []) first second in
+    let b_units : units_of b ≡ flat_map encode_utf16 j.front ++ j.lead ∷ [] = (text_of_points b _ x).units_are ∙ flat_map-append encode_utf16 j.front (j.lead ∷ []) ∙ ap (λ (l : List ℕ). flat_map encode_utf16 j.front ++ (l ++ [])) (encode_utf16-short j.lead (omega (arith, h.1))) in
+    let v_units : units_of v ≡ j.trail ∷ flat_map encode_utf16 j.back = (text_of_points v _ y).units_are ∙ ap (λ (l : List ℕ). l ++ flat_map encode_utf16 j.back) (encode_utf16-short j.trail (omega (arith, t.1))) in
+    let pair : encode_utf16 c ≡ j.lead ∷ j.trail ∷ [] = encode_utf16-long c low ∙ ap₂ (λ (i k' : ℕ). i ∷ k' ∷ []) first second in
     let z_units : flat_map encode_utf16 (j.front ++ c ∷ j.back) ≡ flat_map encode_utf16 j.front ++ (j.lead ∷ j.trail ∷ flat_map encode_utf16 j.back) = flat_map-append encode_utf16 j.front (c ∷ j.back) ∙ ap (λ (l : List ℕ). flat_map encode_utf16 j.front ++ (l ++ flat_map encode_utf16 j.back)) pair in
     let lead_counts : is_surrogate j.lead ≡ true = surrogate j.lead h.0 (omega (arith, h.1)) in
     let trail_counts : is_surrogate j.trail ≡ true = surrogate j.trail (omega (arith, t.0)) t.1 in
