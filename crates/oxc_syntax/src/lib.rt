@@ -9,6 +9,3 @@ pub use syntax_module::module_record;
 pub use syntax_sem::{
     GetNodeId, class, constant_value, node, reference, scope, semantic_id, span, symbol,
 };
-
-#[cfg(test)]
-mod tests;

@@ -1,6 +1,6 @@
 -- Identifier names by blocks of bytes.
-use Rattle.std.proofs.Common.{◌≡◌, ℕ, ◌+◌, ◌-◌, ◌<◌, ◌≤◌, Bool, true, false, ◌&&◌, nat_eq, nat_lt, bit_or, List, [], ◌∷◌, ◌++◌, length, take, take-add, take_all, drop, get_or, lit≤, refl, sym, ◌∙◌, ap, subst, arith, IsUtf8, chars}
-use Rattle.std.proofs.lemmas.Bool.{eqb-true, false_from_ne_true, ltb-true}
+use Rattle.std.proofs.Common.{◌≡◌, ℕ, ◌+◌, ◌-◌, ◌<◌, ◌≤◌, Bool, true, false, nat_eq, nat_lt, bit_or, List, [], ◌∷◌, ◌++◌, length, take, take-add, take_all, drop, get_or, lit≤, refl, sym, ◌∙◌, ap, subst, arith, IsUtf8, chars}
+use Rattle.std.proofs.lemmas.Bool.{and_parts, eqb-true, false_from_ne_true, ltb-true}
 use Rattle.std.proofs.lemmas.List.{length-drop, take-append-drop}
 use Rattle.std.proofs.lemmas.List.Folds.{list_all-append}
 use Rattle.std.proofs.lemmas.Nat.{le_or_l, le_or_r}
@@ -9,11 +9,6 @@ use Rattle.std.proofs.lemmas.Str.Ascii.{IsAscii-cons, IsAscii-nil}
 use Rattle.std.specs.List.{list_all}
 use Rattle.std.specs.Str.{IsAscii, IsCharBoundary}
 use Rattle.syntax_lex.specs.Identifier.{BeginsWithParts, is_ascii_part, is_identifier_part, is_taken, is_taken_part}
-
-both_true : (a b : Bool) → (a && b) ≡ true → (a ≡ true) × (b ≡ true)
-both_true true true both = (refl, refl)
-both_true true false both = cc
-both_true false b both = cc
 
 both_below : (a b : ℕ) → bit_or a b < 128 → (a < 128) × (b < 128)
 both_below a b below = (omega (arith, le_or_l a b), omega (arith, le_or_r a b))
@@ -74,8 +69,8 @@ parts_longer bytes n k within part =
 parts_are_ascii : (bs : List ℕ) → list_all is_ascii_part bs ≡ true → IsAscii bs
 parts_are_ascii [] parts = IsAscii-nil
 parts_are_ascii (b ∷ bs) parts =
-    let each = both_true (is_ascii_part b) (list_all is_ascii_part bs) parts in
-    let ascii = both_true (nat_lt b 128) (is_identifier_part b) each.0 in
+    let each = and_parts (is_ascii_part b) (list_all is_ascii_part bs) parts in
+    let ascii = and_parts (nat_lt b 128) (is_identifier_part b) each.0 in
     IsAscii-cons b bs (ltb-true b 128 ascii.0) (parts_are_ascii bs each.1)
 
 other : (b n : ℕ) → b < 128 → 128 ≤ n → b ≡ n → ⊥
@@ -91,8 +86,8 @@ ascii_is_taken true b below =
 parts_are_taken : (patched : Bool) (bs : List ℕ) → list_all is_ascii_part bs ≡ true → list_all (is_taken_part patched) bs ≡ true
 parts_are_taken patched [] parts = refl
 parts_are_taken patched (b ∷ bs) parts =
-    let each = both_true (is_ascii_part b) (list_all is_ascii_part bs) parts in
-    let ascii = both_true (nat_lt b 128) (is_identifier_part b) each.0 in
+    let each = and_parts (is_ascii_part b) (list_all is_ascii_part bs) parts in
+    let ascii = and_parts (nat_lt b 128) (is_identifier_part b) each.0 in
     rw (ascii.1, ascii_is_taken patched b (ltb-true b 128 ascii.0)) (parts_are_taken patched bs each.1)
 
 pub parts_cut : (text : List ℕ) (n : ℕ) → IsUtf8 text → n ≤ length text → list_all is_ascii_part (take n text) ≡ true
@@ -109,6 +104,3 @@ taken_parts patched text n parts =
     ∙ ap (λ cs. cs ++ chars (drop n text)) (chars-IsAscii (take n text) ascii) in
     let all = list_all-append (is_taken_part patched) (take n text) (chars (drop n text)) in
     sym (ap (λ cs. list_all (is_taken_part patched) cs) whole ∙ all ∙ rw (parts_are_taken patched (take n text) parts) refl)
-
-pub take_whole : (bs : List ℕ) (n : ℕ) → length bs ≤ n → take n bs ≡ bs
-take_whole bs n all = take_all n bs all

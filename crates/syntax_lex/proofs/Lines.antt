@@ -1,6 +1,6 @@
 -- The parts into which line terminators divide a text.
 use Rattle.std.proofs.Common.{◌≡◌, ◌≢◌, ℕ, ◌+◌, ◌≤◌, Bool, true, false, not, ◌&&◌, ◌||◌, nat_eq, List, [], ◌∷◌, ◌++◌, length, take, drop, map, flat_map, refl, sym, ◌∙◌, ap, subst, inl, inr, arith, IsUtf8, chars}
-use Rattle.std.proofs.lemmas.Bool.{cases_Bool, eqb-true}
+use Rattle.std.proofs.lemmas.Bool.{and_parts, cases_Bool, eqb-true}
 use Rattle.std.proofs.lemmas.List.{append_assoc, append_cancel_right, length-append, length-drop, take-append-drop}
 use Rattle.std.proofs.lemmas.List.Folds.{list_any-append}
 use Rattle.std.proofs.lemmas.Str.{IsCharBoundary-from_drop, IsUtf8-past_char, IsUtf8-take, chars-append, chars_past_char, drop_past_char, encodes-chars, length-encode}
@@ -14,11 +14,6 @@ use lib.Utf8.{encode}
 
 abbrev part : List ℕ → List ℕ → Part
 part line terminator = record { line = line; terminator = terminator }
-
-both_true : (a b : Bool) → (a && b) ≡ true → (a ≡ true) × (b ≡ true)
-both_true true true both = (refl, refl)
-both_true true false both = cc
-both_true false b both = cc
 
 -- what follows a line terminator
 pub parts_past_line_feed : (cs : List ℕ) → parts_of cs ≡ drop 1 (parts_of (13 ∷ 10 ∷ cs))
@@ -135,7 +130,7 @@ parts_join (c ∷ cs) =
     elim (cases_Bool (is_line_terminator c)) [
       | inl ends ↦ elim (cases_Bool (nat_eq c 13 && begins_with_line_feed cs)) [
         | inl both ↦
-            let is = both_true (nat_eq c 13) (begins_with_line_feed cs) both in
+            let is = and_parts (nat_eq c 13) (begins_with_line_feed cs) both in
             rw (ends, both, eqb-true c 13 is.0) (ap (λ rest. 13 ∷ rest) (sym (whole_of_line_feed cs is.1) ∙ parts_join cs))
         | inr alone ↦ rw (ends, alone) (ap (λ rest. c ∷ rest) (parts_join cs))
       ]
@@ -150,7 +145,7 @@ lines_before c (first ∷ parts) other = rw other refl
 lines_but_one : (parts : List Part) → list_all is_line (map (λ part. part.line) parts) ≡ true
     → list_all is_line (map (λ part. part.line) (drop 1 parts)) ≡ true
 lines_but_one [] all = refl
-lines_but_one (first ∷ parts) all = (both_true (is_line first.line) (list_all is_line (map (λ part. part.line) parts)) all).1
+lines_but_one (first ∷ parts) all = (and_parts (is_line first.line) (list_all is_line (map (λ part. part.line) parts)) all).1
 
 pub lines_are_lines : (cs : List ℕ) → list_all is_line (lines_of cs) ≡ true
 unfolding parts_of
@@ -189,8 +184,8 @@ ended_behind : (parts : List Part) → are_ended parts ≡ true → are_ended (d
 ended_behind [] ended = refl
 ended_behind (first ∷ []) ended = refl
 ended_behind (first ∷ next ∷ parts) ended =
-    let all = both_true (is_terminator first.terminator) (not (is_divided first next) && are_ended (next ∷ parts)) ended in
-    (both_true (not (is_divided first next)) (are_ended (next ∷ parts)) all.1).1
+    let all = and_parts (is_terminator first.terminator) (not (is_divided first next) && are_ended (next ∷ parts)) ended in
+    (and_parts (not (is_divided first next)) (are_ended (next ∷ parts)) all.1).1
 
 ended_by_text : (terminator line : List ℕ) (c : ℕ)
     → (is_terminator terminator || (pointwise nat_eq terminator [] && not (pointwise nat_eq line []))) ≡ true
@@ -199,7 +194,7 @@ ended_by_text terminator line c ended =
     elim (cases_Bool (is_terminator terminator)) [
       | inl holds ↦ rw holds refl
       | inr fails ↦
-          let rest = both_true (pointwise nat_eq terminator []) (not (pointwise nat_eq line [])) (rw fails at ended) in
+          let rest = and_parts (pointwise nat_eq terminator []) (not (pointwise nat_eq line [])) (rw fails at ended) in
           rw (fails, rest.0) refl
     ]
 

@@ -1,11 +1,11 @@
 -- Operators of assignments (ECMA-262, 13.15).
 use Rattle.std.specs.Prelude.{ℕ, Bool, true, false, Option, None, Some, List, codes}
-use Rattle.syntax_lex.specs.declared.operator.AssignmentOperator.{AssignmentOperator}
-use Rattle.syntax_lex.specs.declared.operator.AssignmentOperator.TheVariants.{Assign, Addition, Subtraction, Multiplication, Division, Remainder, Exponential, ShiftLeft, ShiftRight, ShiftRightZeroFill, BitwiseOR, BitwiseXOR, BitwiseAnd, LogicalOr, LogicalAnd, LogicalNullish}
-use Rattle.syntax_lex.specs.declared.operator.BinaryOperator.{BinaryOperator}
-use Rattle.syntax_lex.specs.declared.operator.BinaryOperator.TheVariants as binary
-use Rattle.syntax_lex.specs.declared.operator.LogicalOperator.{LogicalOperator}
-use Rattle.syntax_lex.specs.declared.operator.LogicalOperator.TheVariants as logical
+use Rattle.syntax_lex.specs.declared.operator.assignment.AssignmentOperator.{AssignmentOperator}
+use Rattle.syntax_lex.specs.declared.operator.assignment.AssignmentOperator.TheVariants.{Assign, Addition, Subtraction, Multiplication, Division, Remainder, Exponential, ShiftLeft, ShiftRight, ShiftRightZeroFill, BitwiseOR, BitwiseXOR, BitwiseAnd, LogicalOr, LogicalAnd, LogicalNullish}
+use Rattle.syntax_lex.specs.declared.operator.binary.BinaryOperator.{BinaryOperator}
+use Rattle.syntax_lex.specs.declared.operator.binary.BinaryOperator.TheVariants as binary
+use Rattle.syntax_lex.specs.declared.operator.logical.LogicalOperator.{LogicalOperator}
+use Rattle.syntax_lex.specs.declared.operator.logical.LogicalOperator.TheVariants as logical
 
 -- how it is written
 abbrev pub text_of : AssignmentOperator → List ℕ

@@ -1,9 +1,9 @@
 -- Operators between two expressions that are both evaluated.
 use Rattle.std.specs.Prelude.{ℕ, Bool, true, false, ◌||◌, Option, None, Some, List, codes}
-use Rattle.syntax_lex.specs.declared.operator.BinaryOperator.{BinaryOperator}
-use Rattle.syntax_lex.specs.declared.operator.BinaryOperator.TheVariants.{Equality, Inequality, StrictEquality, StrictInequality, LessThan, LessEqualThan, GreaterThan, GreaterEqualThan, Addition, Subtraction, Multiplication, Division, Remainder, Exponential, ShiftLeft, ShiftRight, ShiftRightZeroFill, BitwiseOR, BitwiseXOR, BitwiseAnd, In, Instanceof}
-use Rattle.syntax_lex.specs.declared.operator.AssignmentOperator.{AssignmentOperator}
-use Rattle.syntax_lex.specs.declared.operator.AssignmentOperator.TheVariants as assignment
+use Rattle.syntax_lex.specs.declared.operator.binary.BinaryOperator.{BinaryOperator}
+use Rattle.syntax_lex.specs.declared.operator.binary.BinaryOperator.TheVariants.{Equality, Inequality, StrictEquality, StrictInequality, LessThan, LessEqualThan, GreaterThan, GreaterEqualThan, Addition, Subtraction, Multiplication, Division, Remainder, Exponential, ShiftLeft, ShiftRight, ShiftRightZeroFill, BitwiseOR, BitwiseXOR, BitwiseAnd, In, Instanceof}
+use Rattle.syntax_lex.specs.declared.operator.assignment.AssignmentOperator.{AssignmentOperator}
+use Rattle.syntax_lex.specs.declared.operator.assignment.AssignmentOperator.TheVariants as assignment
 use Rattle.syntax_lex.specs.declared.precedence.Precedence.{Precedence}
 use Rattle.syntax_lex.specs.declared.precedence.Precedence.TheVariants as level
 

@@ -1,9 +1,9 @@
 -- Operators that evaluate their right side where the left one asks for it (ECMA-262, 13.13).
 use Rattle.std.specs.Prelude.{ℕ, Bool, true, false, List, codes}
-use Rattle.syntax_lex.specs.declared.operator.LogicalOperator.{LogicalOperator}
-use Rattle.syntax_lex.specs.declared.operator.LogicalOperator.TheVariants.{Or, And, Coalesce}
-use Rattle.syntax_lex.specs.declared.operator.AssignmentOperator.{AssignmentOperator}
-use Rattle.syntax_lex.specs.declared.operator.AssignmentOperator.TheVariants as assignment
+use Rattle.syntax_lex.specs.declared.operator.logical.LogicalOperator.{LogicalOperator}
+use Rattle.syntax_lex.specs.declared.operator.logical.LogicalOperator.TheVariants.{Or, And, Coalesce}
+use Rattle.syntax_lex.specs.declared.operator.assignment.AssignmentOperator.{AssignmentOperator}
+use Rattle.syntax_lex.specs.declared.operator.assignment.AssignmentOperator.TheVariants as assignment
 use Rattle.syntax_lex.specs.declared.precedence.Precedence.{Precedence}
 use Rattle.syntax_lex.specs.declared.precedence.Precedence.TheVariants as level
 

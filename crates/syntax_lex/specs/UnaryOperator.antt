@@ -1,7 +1,7 @@
 -- Operators before their expression (ECMA-262, 13.5).
 use Rattle.std.specs.Prelude.{ℕ, Bool, true, false, List, codes}
-use Rattle.syntax_lex.specs.declared.operator.UnaryOperator.{UnaryOperator}
-use Rattle.syntax_lex.specs.declared.operator.UnaryOperator.TheVariants.{UnaryPlus, UnaryNegation, LogicalNot, BitwiseNot, Typeof, Void, Delete}
+use Rattle.syntax_lex.specs.declared.operator.unary.UnaryOperator.{UnaryOperator}
+use Rattle.syntax_lex.specs.declared.operator.unary.UnaryOperator.TheVariants.{UnaryPlus, UnaryNegation, LogicalNot, BitwiseNot, Typeof, Void, Delete}
 
 -- how it is written
 abbrev pub text_of : UnaryOperator → List ℕ

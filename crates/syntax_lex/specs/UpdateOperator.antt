@@ -1,7 +1,7 @@
 -- Operators that change their target (ECMA-262, 13.4).
 use Rattle.std.specs.Prelude.{ℕ, List, codes}
-use Rattle.syntax_lex.specs.declared.operator.UpdateOperator.{UpdateOperator}
-use Rattle.syntax_lex.specs.declared.operator.UpdateOperator.TheVariants.{Increment, Decrement}
+use Rattle.syntax_lex.specs.declared.operator.update.UpdateOperator.{UpdateOperator}
+use Rattle.syntax_lex.specs.declared.operator.update.UpdateOperator.TheVariants.{Increment, Decrement}
 
 -- how it is written
 abbrev pub text_of : UpdateOperator → List ℕ

@@ -14,23 +14,36 @@ use std::fmt;
 /// An edition of ECMA-262, in order; the default is what comes after the last one.
 #[derive(Clone, Copy, Debug, Default, PartialEq, Eq, PartialOrd, Ord)]
 pub enum ESTarget {
+    /// ECMAScript 2015.
     ES2015,
+    /// ECMAScript 2016.
     ES2016,
+    /// ECMAScript 2017.
     ES2017,
+    /// ECMAScript 2018.
     ES2018,
+    /// ECMAScript 2019.
     ES2019,
+    /// ECMAScript 2020.
     ES2020,
+    /// ECMAScript 2021.
     ES2021,
+    /// ECMAScript 2022.
     ES2022,
+    /// ECMAScript 2023.
     ES2023,
+    /// ECMAScript 2024.
     ES2024,
+    /// ECMAScript 2025.
     ES2025,
+    /// ECMAScript 2026.
     ES2026,
+    /// What comes after the last edition.
     #[default]
     ESNext,
 }
 
-/// The editions in order.
+// The editions in order.
 const TARGETS: [ESTarget; 13] = [
     ESTarget::ES2015,
     ESTarget::ES2016,
@@ -64,7 +77,7 @@ impl ESTarget {
     }
 }
 
-/// The edition that a word in lower case names.
+// The edition that a word in lower case names.
 fn target_of(word: &str) -> Option<ESTarget>
     ensures { result ≡ spec.target_of word.now }
 {
@@ -74,7 +87,7 @@ fn target_of(word: &str) -> Option<ESTarget>
     target_among(&TARGETS, word)
 }
 
-/// The first of these editions that a word in lower case names.
+// The first of these editions that a word in lower case names.
 fn target_among(targets: &[ESTarget], word: &str) -> Option<ESTarget>
     ensures { result ≡ spec.target_among targets.now word.now }
 {
@@ -86,7 +99,7 @@ fn target_among(targets: &[ESTarget], word: &str) -> Option<ESTarget>
     None
 }
 
-/// What is wrong with a word, which is `lower` in lower case, that names no edition.
+// What is wrong with a word, which is `lower` in lower case, that names no edition.
 fn fault_of(alloc: Global, word: &str, lower: &str) -> TargetError
     requires lower { lower.now ≡ str_to_ascii_lowercase word.now }
     requires none { spec.target_of lower.now ≡ None }
@@ -144,7 +157,7 @@ impl fmt::Display for ESTarget {
     }
 }
 
-/// The word for an edition, in lower case.
+// The word for an edition, in lower case.
 fn word_of(target: ESTarget) -> &'static str
     ensures { result.now ≡ spec.word_of target }
 {

@@ -36,37 +36,37 @@ pub const SP: char = '\u{20}';
 /// U+00A0 NO-BREAK SPACE.
 pub const NBSP: char = '\u{a0}';
 
-/// U+0085 NEXT LINE.
+// U+0085 NEXT LINE.
 const NEL: char = '\u{85}';
 
-/// U+1680 OGHAM SPACE MARK.
+// U+1680 OGHAM SPACE MARK.
 const OGHAM_SPACE_MARK: char = '\u{1680}';
 
-/// U+2000 EN QUAD, the first of a run of spaces.
+// U+2000 EN QUAD, the first of a run of spaces.
 const EN_QUAD: char = '\u{2000}';
 
-/// U+200B ZERO WIDTH SPACE, the last of that run.
+// U+200B ZERO WIDTH SPACE, the last of that run.
 const ZWSP: char = '\u{200b}';
 
-/// U+202F NARROW NO-BREAK SPACE.
+// U+202F NARROW NO-BREAK SPACE.
 const NNBSP: char = '\u{202f}';
 
-/// U+205F MEDIUM MATHEMATICAL SPACE.
+// U+205F MEDIUM MATHEMATICAL SPACE.
 const MMSP: char = '\u{205f}';
 
-/// U+3000 IDEOGRAPHIC SPACE.
+// U+3000 IDEOGRAPHIC SPACE.
 const IDEOGRAPHIC_SPACE: char = '\u{3000}';
 
-/// U+30FB KATAKANA MIDDLE DOT.
+// U+30FB KATAKANA MIDDLE DOT.
 const KATAKANA_MIDDLE_DOT: char = '\u{30fb}';
 
-/// U+FF65 HALFWIDTH KATAKANA MIDDLE DOT.
+// U+FF65 HALFWIDTH KATAKANA MIDDLE DOT.
 const HALFWIDTH_KATAKANA_MIDDLE_DOT: char = '\u{ff65}';
 
-/// The bit of [`ASCII_ID_FLAGS`] that marks the characters with which an identifier name may begin.
+// The bit of [`ASCII_ID_FLAGS`] that marks the characters with which an identifier name may begin.
 const ID_START: u8 = 1;
 
-/// The bit that marks those with which it may go on.
+// The bit that marks those with which it may go on.
 const ID_CONTINUE: u8 = 2;
 
 fn is_unicode_space_separator(c: char) -> bool
@@ -217,7 +217,7 @@ fn is_identifier_name_impl(name: &str, patched: bool) -> bool
     }
 }
 
-/// Whether an identifier name may go on with this text: by blocks of bytes in front, then by characters.
+// Whether an identifier name may go on with this text: by blocks of bytes in front, then by characters.
 fn are_taken_parts(text: &str, patched: bool) -> bool
     ensures { result ≡ list_all (spec.is_taken_part patched) (chars text.now) }
 {
@@ -236,7 +236,7 @@ fn are_taken_characters(text: &str, patched: bool) -> bool
     true
 }
 
-/// The length of a run of ASCII parts in front, as far as blocks of eight bytes and then one of four show it.
+// The length of a run of ASCII parts in front, as far as blocks of eight bytes and then one of four show it.
 fn ascii_parts_len(bytes: &[u8]) -> usize
     ensures within { result ≤ length bytes.now }
     ensures parts { list_all spec.is_ascii_part (take result bytes.now) ≡ true }
@@ -251,7 +251,7 @@ fn ascii_parts_len(bytes: &[u8]) -> usize
     len
 }
 
-/// Whether the first eight bytes are ASCII parts. Their bits together show whether they are ASCII.
+// Whether the first eight bytes are ASCII parts. Their bits together show whether they are ASCII.
 fn begins_with_8_parts(bytes: &[u8]) -> bool
     ensures { result ≡ true → spec.BeginsWithParts 8 bytes.now }
 {
@@ -263,7 +263,7 @@ fn begins_with_8_parts(bytes: &[u8]) -> bool
     }
 }
 
-/// The same of the first four bytes.
+// The same of the first four bytes.
 fn begins_with_4_parts(bytes: &[u8]) -> bool
     ensures { result ≡ true → spec.BeginsWithParts 4 bytes.now }
 {
@@ -285,21 +285,21 @@ fn are_ascii_parts(bytes: &[u8]) -> bool
     true
 }
 
-/// Whether an identifier name may begin with this character.
+// Whether an identifier name may begin with this character.
 fn is_taken_start(c: char, patched: bool) -> bool
     ensures { result ≡ (spec.is_identifier_start c && spec.is_taken patched c) }
 {
     is_identifier_start(c) && is_taken(c, patched)
 }
 
-/// Whether an identifier name may go on with this character.
+// Whether an identifier name may go on with this character.
 fn is_taken_part(c: char, patched: bool) -> bool
     ensures { result ≡ spec.is_taken_part patched c }
 {
     is_identifier_part(c) && is_taken(c, patched)
 }
 
-/// Whether names with this character are taken: where patched, with no middle dot of Katakana.
+// Whether names with this character are taken: where patched, with no middle dot of Katakana.
 fn is_taken(c: char, patched: bool) -> bool
     ensures { result ≡ spec.is_taken patched c }
 {

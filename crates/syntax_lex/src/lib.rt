@@ -10,5 +10,3 @@ pub mod line_terminator;
 pub mod number;
 pub mod operator;
 pub mod precedence;
-#[cfg(test)]
-mod tests;

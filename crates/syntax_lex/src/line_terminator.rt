@@ -86,7 +86,7 @@ impl<'a> Iterator for LineTerminatorSplitter<'a> {
 
 impl<'a> FusedIterator for LineTerminatorSplitter<'a> {}
 
-/// The first line of a text, and the text behind it and its terminator.
+// The first line of a text, and the text behind it and its terminator.
 fn split_line(text: &str) -> (&str, &str)
     requires { length text.now ≢ 0 }
     ensures { spec.lines_of (chars text.now)
@@ -103,7 +103,7 @@ fn split_line(text: &str) -> (&str, &str)
     (text, "")
 }
 
-/// The text behind a line terminator, of which `c` is the first character and `rest` what follows it.
+// The text behind a line terminator, of which `c` is the first character and `rest` what follows it.
 fn past_terminator(c: char, rest: &str) -> &str
     requires { spec.is_line_terminator c ≡ true }
     ensures { spec.parts_of (chars result.now) ≡ drop 1 (spec.parts_of (c ∷ chars rest.now)) }
@@ -115,7 +115,7 @@ fn past_terminator(c: char, rest: &str) -> &str
     }
 }
 
-/// The text behind a LINE FEED, if it begins with one.
+// The text behind a LINE FEED, if it begins with one.
 fn past_line_feed(text: &str) -> Option<&str>
     ensures { MatchOption result (spec.begins_with_line_feed (chars text.now) ≡ false)
         (λ rest. chars text.now ≡ 10 ∷ chars rest.now) }

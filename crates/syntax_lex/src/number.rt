@@ -9,9 +9,13 @@ ghost use Rattle.syntax_lex.specs.Number as spec;
 pub enum NumberBase {
     /// Base 10 with a point or an exponent.
     Float,
+    /// Base 10.
     Decimal,
+    /// Base 2.
     Binary,
+    /// Base 8.
     Octal,
+    /// Base 16.
     Hex,
 }
 
@@ -27,9 +31,13 @@ impl NumberBase {
 /// The base in which a BigInt is written.
 #[derive(Clone, Copy, Debug, PartialEq, Eq, Hash)]
 pub enum BigintBase {
+    /// Base 10.
     Decimal,
+    /// Base 2.
     Binary,
+    /// Base 8.
     Octal,
+    /// Base 16.
     Hex,
 }
 

@@ -19,28 +19,51 @@ pub trait GetPrecedence {
 /// A level of binding, of which each binds more tightly than those before it.
 #[derive(Clone, Copy, Debug, PartialEq, Eq, PartialOrd, Ord)]
 pub enum Precedence {
+    /// Below every operator.
     Lowest,
+    /// `,`
     Comma,
+    /// `...`
     Spread,
+    /// `yield`
     Yield,
+    /// `=` and the other assignments, and arrow functions.
     Assign,
+    /// `? :`
     Conditional,
+    /// `??`
     NullishCoalescing,
+    /// `||`
     LogicalOr,
+    /// `&&`
     LogicalAnd,
+    /// `|`
     BitwiseOr,
+    /// `^`
     BitwiseXor,
+    /// `&`
     BitwiseAnd,
+    /// `==`, `!=`, `===` and `!==`.
     Equals,
+    /// `<`, `<=`, `>`, `>=`, `in` and `instanceof`.
     Compare,
+    /// `<<`, `>>` and `>>>`.
     Shift,
+    /// `+` and `-`.
     Add,
+    /// `*`, `/` and `%`.
     Multiply,
+    /// `**`
     Exponentiation,
+    /// Operators before their expression.
     Prefix,
+    /// `++` and `--` behind their target.
     Postfix,
+    /// `new` without arguments.
     New,
+    /// Calls.
     Call,
+    /// Members, and what needs no operator.
     Member,
 }
 

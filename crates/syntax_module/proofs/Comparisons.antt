@@ -1,6 +1,5 @@
--- Tests that compare by content: of flags, of two fields together, and of what is there or not.
-use Rattle.std.proofs.Common.{◌≡◌, ◌↔◌, Bool, true, false, ◌&&◌, Option, None, Some, IsTrue, option_map, refl, sym, ap, ap₂, true≢false}
-use mathlib.Core.Bool.{beq}
+-- Tests that compare by content: of two fields together, and of what is there or not.
+use Rattle.std.proofs.Common.{◌≡◌, ◌↔◌, Bool, ◌&&◌, None, Some, IsTrue, option_map, refl, ap, ap₂}
 use Rattle.std.specs.Option.{option_eq}
 use Rattle.std.proofs.lemmas.Bool.{and_parts, and_from}
 use Rattle.oxc_str.specs.Equality.{ComparesBy}
@@ -27,24 +26,10 @@ module _ {A B C D E F G : Type 0} where
   abbrev pub flat7 : A × (B × (C × (D × (E × (F × G))))) → A × B × C × D × E × F × G
   flat7 p = (p.0, p.1.0, p.1.1.0, p.1.1.1.0, p.1.1.1.1.0, p.1.1.1.1.1.0, p.1.1.1.1.1.1)
 
-pub flags_equal : (a b : Bool) → IsTrue (beq a b) ↔ (a ≡ b)
-flags_equal false false = (λ h. refl, λ e. refl)
-flags_equal false true = (λ h. h, λ e. e)
-flags_equal true false = (λ h. sym h, λ e. sym e)
-flags_equal true true = (λ h. refl, λ e. refl)
-
 module _ {T A : Type 0} (f : T → A) (E : T → T → Bool) where
-  abbrev is_there : Option A → Bool
-  is_there None = false
-  is_there (Some a) = true
-
-  abbrev there_or : A → Option A → A
-  there_or b None = b
-  there_or b (Some a) = a
-
   -- what is there or not is equal exactly where neither is there, or both are and are equal
   pub optional : ComparesBy f E → ComparesBy (option_map f) (option_eq E)
   optional a None None = (λ h. refl, λ e. refl)
-  optional a None (Some y) = (λ h. absurd (true≢false (sym h)), λ e. ap is_there e)
-  optional a (Some x) None = (λ h. absurd (true≢false (sym h)), λ e. sym (ap is_there e))
-  optional a (Some x) (Some y) = (λ h. ap Some ((a x y).0 h), λ e. (a x y).1 (ap (there_or (f x)) e))
+  optional a None (Some y) = (λ h. cc, λ e. cc)
+  optional a (Some x) None = (λ h. cc, λ e. cc)
+  optional a (Some x) (Some y) = (λ h. ap Some ((a x y).0 h), λ e. (a x y).1 (cc))

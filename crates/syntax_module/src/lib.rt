@@ -2,5 +2,3 @@
 #![tactic(auto)]
 
 pub mod module_record;
-#[cfg(test)]
-mod tests;

@@ -3,11 +3,11 @@ use Rattle.std.specs.Prelude.{Option, Some}
 use Rattle.std.specs.Borrow.{Fml, Lends, MutBor}
 use Rattle.syntax_sem.specs.contracts.reference.Reference.{the_row}
 use Rattle.syntax_sem.specs.contracts.reference.ReferenceFlags.{the_row as flags_row}
-use Rattle.syntax_sem.specs.declared.node.NodeId.{NodeId}
+use Rattle.syntax_sem.specs.declared.node.node_id.NodeId.{NodeId}
 use Rattle.syntax_sem.specs.declared.reference.Reference.{Reference}
 use Rattle.syntax_sem.specs.declared.reference.ReferenceFlags.{ReferenceFlags}
-use Rattle.syntax_sem.specs.declared.scope.ScopeId.{ScopeId}
-use Rattle.syntax_sem.specs.declared.symbol.SymbolId.{SymbolId}
+use Rattle.syntax_sem.specs.declared.scope.scope_id.ScopeId.{ScopeId}
+use Rattle.syntax_sem.specs.declared.symbol.symbol_id.SymbolId.{SymbolId}
 
 -- the reference at a node in a scope, to a symbol if that is known, with flags
 abbrev pub reference_of : NodeId → Option SymbolId → ScopeId → ReferenceFlags → Reference

@@ -1,11 +1,12 @@
 -- What a `ReferenceId` is to a contract.
 use Rattle.std.specs.Prelude.{ℕ}
-use Rattle.syntax_sem.specs.declared.reference.ReferenceId.{ReferenceId}
+use Rattle.std.proofs.Common.{lit≤}
+use Rattle.syntax_sem.specs.declared.reference.reference_id.ReferenceId.{ReferenceId}
 
 -- the number that it stands for
 abbrev pub number_of : ReferenceId → ℕ
-number_of id = id.0
+number_of id = id.number
 
--- the id that stands for a number
-abbrev pub id_of : ℕ → ReferenceId
-id_of number = record { 0 = number }
+-- the id that stands for 0
+abbrev pub zero : ReferenceId
+zero = record { number = 0; below = lit≤ tt }

@@ -1,11 +1,12 @@
 -- What a `ScopeId` is to a contract.
 use Rattle.std.specs.Prelude.{ℕ}
-use Rattle.syntax_sem.specs.declared.scope.ScopeId.{ScopeId}
+use Rattle.std.proofs.Common.{lit≤}
+use Rattle.syntax_sem.specs.declared.scope.scope_id.ScopeId.{ScopeId}
 
 -- the number that it stands for
 abbrev pub number_of : ScopeId → ℕ
-number_of id = id.0
+number_of id = id.number
 
--- the id that stands for a number
-abbrev pub id_of : ℕ → ScopeId
-id_of number = record { 0 = number }
+-- the id that stands for 0
+abbrev pub zero : ScopeId
+zero = record { number = 0; below = lit≤ tt }

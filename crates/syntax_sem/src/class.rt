@@ -25,7 +25,8 @@ impl ClassId {
 
     /// Its number.
     pub fn index(self) -> usize
-        ensures { result ≡ class.number_of self }
+        ensures value { result ≡ class.number_of self }
+        ensures below { result < 2 ^ 32 }
     {
         self.0 as usize
     }
@@ -46,7 +47,8 @@ impl ElementId {
 
     /// Its number.
     pub fn index(self) -> usize
-        ensures { result ≡ element.number_of self }
+        ensures value { result ≡ element.number_of self }
+        ensures below { result < 2 ^ 32 }
     {
         self.0 as usize
     }
@@ -60,9 +62,13 @@ bitflag_items! {
     impl ElementKind: u8 {
         /// A field with the modifier `accessor`.
         const ACCESSOR = 1 << 0;
+        /// A method.
         const METHOD = 1 << 1;
+        /// A field.
         const PROPERTY = 1 << 2;
+        /// A setter.
         const SETTER = 1 << 3;
+        /// A getter.
         const GETTER = 1 << 4;
     }
 }

@@ -7,6 +7,7 @@ use oxc_str::CompactStr;
 /// The value of an enum member. Numbers are left out: nothing here computes with them.
 #[derive(PartialEq, Drop)]
 pub enum ConstantValue {
+    /// A text.
     String(CompactStr),
 }
 

@@ -12,6 +12,3 @@ pub mod span;
 pub mod symbol;
 
 pub use node::GetNodeId;
-
-#[cfg(test)]
-mod tests;

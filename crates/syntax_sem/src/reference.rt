@@ -2,59 +2,19 @@
 
 ghost use Rattle.std.specs.Borrow.{sem};
 ghost use Rattle.std.specs.Ordering.{nat_cmp};
-ghost use Rattle.std.specs.Prelude.{◌-◌, ◌<◌, ◌==◌, ◌&&◌, ◌≡◌, ◌^◌, ⊤, None, Some, not};
+ghost use Rattle.std.specs.Prelude.{◌==◌, ◌&&◌, ◌≡◌, ⊤, None, Some, not};
 ghost use Rattle.syntax_sem.specs.Bits.{has_all, has_any};
 ghost use Rattle.syntax_sem.specs.Equality.{DecidesEquality};
 ghost use Rattle.syntax_sem.specs.ReferenceFlags as flags;
 ghost use Rattle.syntax_sem.specs.ReferenceId as id;
-ghost use Rattle.syntax_sem.specs.SemanticId.{cloned_option};
+
+mod reference_id;
 
 use crate::node::NodeId;
 use crate::scope::ScopeId;
-use crate::semantic_id::{CloneInSemanticIds, SemanticId};
 use crate::symbol::SymbolId;
 use bitflags::{Flag, Flags, bitflag_items};
-
-/// The id of a reference: a number below `u32::MAX`.
-#[derive(Clone, Copy, Debug, PartialEq, Eq, PartialOrd, Ord, Hash)]
-pub struct ReferenceId(u32);
-
-impl ReferenceId {
-    /// The id with a number.
-    pub fn from_usize(n: usize) -> Self
-        requires { n < 2 ^ 32 - 1 }
-        ensures { result ≡ id.id_of n }
-    {
-        ReferenceId(n as u32)
-    }
-
-    /// Its number.
-    pub fn index(self) -> usize
-        ensures { result ≡ id.number_of self }
-    {
-        self.0 as usize
-    }
-}
-
-impl SemanticId for ReferenceId {
-    ghost zero = { id.id_of 0 };
-
-    fn clone_id(&self, with: CloneInSemanticIds) -> Self {
-        match with {
-            CloneInSemanticIds::With => *self,
-            CloneInSemanticIds::Without => ReferenceId(0),
-        }
-    }
-
-    fn clone_cell_option_id(id: Option<Self>, with: CloneInSemanticIds) -> Option<Self>
-        ensures { result ≡ cloned_option id with }
-    {
-        match with {
-            CloneInSemanticIds::With => id,
-            CloneInSemanticIds::Without => None,
-        }
-    }
-}
+pub use reference_id::ReferenceId;
 
 /// What a reference does with its binding.
 #[derive(Clone, Copy, Debug, PartialEq, Eq)]
@@ -62,7 +22,9 @@ pub struct ReferenceFlags(u8);
 
 bitflag_items! {
     impl ReferenceFlags: u8 {
+        /// It reads.
         const READ = 1 << 0;
+        /// It writes.
         const WRITE = 1 << 1;
         /// It stands in a type.
         const TYPE = 1 << 2;
@@ -72,6 +34,7 @@ bitflag_items! {
         const NAMESPACE = 1 << 4;
         /// It is the object of a member that is written to.
         const MEMBER_WRITE_TARGET = 1 << 5;
+        /// Nothing is known.
         const NONE = 0;
         /// A use as a value.
         const VALUE = Self::READ.0 | Self::WRITE.0;
@@ -332,6 +295,7 @@ impl Reference {
 pub fn reference_ids_compare_by_number(a: ReferenceId, b: ReferenceId)
     ensures equal { DecidesEquality ⟦<ReferenceId as PartialEq>⟧.eq }
     ensures order { ⟦<ReferenceId as Ord>⟧.cmp a b ≡ nat_cmp (id.number_of a) (id.number_of b) }
+    ensures known_by_number { id.number_of a ≡ id.number_of b → a ≡ b }
 {}
 
 /// The law that `==` holds exactly between reference flags that are the same, and that none is set by

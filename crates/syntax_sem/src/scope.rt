@@ -2,56 +2,16 @@
 
 ghost use Rattle.std.specs.Int.RustNames.{bit_or};
 ghost use Rattle.std.specs.Ordering.{nat_cmp};
-ghost use Rattle.std.specs.Prelude.{◌-◌, ◌<◌, ◌==◌, ◌≡◌, ◌^◌, ◌||◌, ⊤, if◌then◌else◌};
+ghost use Rattle.std.specs.Prelude.{◌==◌, ◌≡◌, ◌||◌, ⊤, if◌then◌else◌};
 ghost use Rattle.syntax_sem.specs.Bits.{has_all, has_any};
 ghost use Rattle.syntax_sem.specs.Equality.{DecidesEquality};
 ghost use Rattle.syntax_sem.specs.ScopeFlags as flags;
 ghost use Rattle.syntax_sem.specs.ScopeId as id;
-ghost use Rattle.syntax_sem.specs.SemanticId.{cloned_option};
 
-use crate::semantic_id::{CloneInSemanticIds, SemanticId};
+mod scope_id;
+
 use bitflags::{Flag, Flags, bitflag_items};
-
-/// The id of a scope: a number below `u32::MAX`.
-#[derive(Clone, Copy, Debug, PartialEq, Eq, PartialOrd, Ord, Hash)]
-pub struct ScopeId(u32);
-
-impl ScopeId {
-    /// The id with a number.
-    pub fn from_usize(n: usize) -> Self
-        requires { n < 2 ^ 32 - 1 }
-        ensures { result ≡ id.id_of n }
-    {
-        ScopeId(n as u32)
-    }
-
-    /// Its number.
-    pub fn index(self) -> usize
-        ensures { result ≡ id.number_of self }
-    {
-        self.0 as usize
-    }
-}
-
-impl SemanticId for ScopeId {
-    ghost zero = { id.id_of 0 };
-
-    fn clone_id(&self, with: CloneInSemanticIds) -> Self {
-        match with {
-            CloneInSemanticIds::With => *self,
-            CloneInSemanticIds::Without => ScopeId(0),
-        }
-    }
-
-    fn clone_cell_option_id(id: Option<Self>, with: CloneInSemanticIds) -> Option<Self>
-        ensures { result ≡ cloned_option id with }
-    {
-        match with {
-            CloneInSemanticIds::With => id,
-            CloneInSemanticIds::Without => None,
-        }
-    }
-}
+pub use scope_id::ScopeId;
 
 /// What opens a scope, and what is known of the code in it.
 #[derive(Clone, Copy, Debug, PartialEq, Eq)]
@@ -67,15 +27,21 @@ bitflag_items! {
         const FUNCTION = 1 << 2;
         /// An arrow function.
         const ARROW = 1 << 3;
+        /// A `static` block of a class.
         const CLASS_STATIC_BLOCK = 1 << 4;
         /// A TypeScript namespace.
         const TS_MODULE_BLOCK = 1 << 5;
+        /// A constructor of a class.
         const CONSTRUCTOR = 1 << 6;
+        /// A getter.
         const GET_ACCESSOR = 1 << 7;
+        /// A setter.
         const SET_ACCESSOR = 1 << 8;
+        /// A catch clause.
         const CATCH_CLAUSE = 1 << 9;
         /// It holds a direct call of `eval`.
         const DIRECT_EVAL = 1 << 10;
+        /// A conditional type of TypeScript.
         const TS_CONDITIONAL = 1 << 11;
         /// A `with` statement.
         const WITH = 1 << 12;
@@ -232,6 +198,7 @@ impl ScopeFlags {
 pub fn scope_ids_compare_by_number(a: ScopeId, b: ScopeId)
     ensures equal { DecidesEquality ⟦<ScopeId as PartialEq>⟧.eq }
     ensures order { ⟦<ScopeId as Ord>⟧.cmp a b ≡ nat_cmp (id.number_of a) (id.number_of b) }
+    ensures known_by_number { id.number_of a ≡ id.number_of b → a ≡ b }
 {}
 
 /// The law that `==` holds exactly between scope flags that are the same.

@@ -7,7 +7,9 @@ ghost use Rattle.syntax_sem.specs.SemanticId.{cloned_id, cloned_option};
 /// Whether a copy of a tree keeps the ids that semantic analysis gave it.
 #[derive(Clone, Copy, Debug, PartialEq, Eq)]
 pub enum CloneInSemanticIds {
+    /// It keeps them.
     With,
+    /// It has none.
     Without,
 }
 

@@ -8,7 +8,9 @@ use oxc_estree::ESTreeSpan;
 /// A piece of source text, by the offsets of its first byte and of the byte after its last.
 #[derive(Clone, Copy, Debug, PartialEq, Eq)]
 pub struct Span {
+    /// The offset of the first byte.
     pub start: u32,
+    /// The offset of the byte after the last.
     pub end: u32,
 }
 

@@ -1,78 +1,19 @@
 //! Ids and flags of symbols.
 
 ghost use Rattle.std.specs.Ordering.{nat_cmp};
-ghost use Rattle.std.specs.Prelude.{◌-◌, ◌<◌, ◌≡◌, ◌^◌, ⊤};
+ghost use Rattle.std.specs.Prelude.{◌≡◌, ⊤};
 ghost use Rattle.syntax_sem.specs.Bits.{has_all, has_any};
 ghost use Rattle.syntax_sem.specs.Equality.{DecidesEquality};
 ghost use Rattle.syntax_sem.specs.RedeclarationId as redeclaration;
-ghost use Rattle.syntax_sem.specs.SemanticId.{cloned_option};
 ghost use Rattle.syntax_sem.specs.SymbolFlags as flags;
 ghost use Rattle.syntax_sem.specs.SymbolId as id;
 
-use crate::semantic_id::{CloneInSemanticIds, SemanticId};
+mod redeclaration_id;
+mod symbol_id;
+
 use bitflags::{Flag, Flags, bitflag_items};
-
-/// The id of a symbol: a number below `u32::MAX`.
-#[derive(Clone, Copy, Debug, PartialEq, Eq, PartialOrd, Ord, Hash)]
-pub struct SymbolId(u32);
-
-impl SymbolId {
-    /// The id with a number.
-    pub fn from_usize(n: usize) -> Self
-        requires { n < 2 ^ 32 - 1 }
-        ensures { result ≡ id.id_of n }
-    {
-        SymbolId(n as u32)
-    }
-
-    /// Its number.
-    pub fn index(self) -> usize
-        ensures { result ≡ id.number_of self }
-    {
-        self.0 as usize
-    }
-}
-
-impl SemanticId for SymbolId {
-    ghost zero = { id.id_of 0 };
-
-    fn clone_id(&self, with: CloneInSemanticIds) -> Self {
-        match with {
-            CloneInSemanticIds::With => *self,
-            CloneInSemanticIds::Without => SymbolId(0),
-        }
-    }
-
-    fn clone_cell_option_id(id: Option<Self>, with: CloneInSemanticIds) -> Option<Self>
-        ensures { result ≡ cloned_option id with }
-    {
-        match with {
-            CloneInSemanticIds::With => id,
-            CloneInSemanticIds::Without => None,
-        }
-    }
-}
-
-/// The id of a list of redeclarations: a number below `u32::MAX`.
-#[derive(Clone, Copy, Debug, PartialEq, Eq, PartialOrd, Ord, Hash)]
-pub struct RedeclarationId(u32);
-
-impl RedeclarationId {
-    /// The id with a number.
-    pub fn from_usize(n: usize) -> Self
-        requires { n < 2 ^ 32 - 1 }
-        ensures { result ≡ redeclaration.id_of n }
-    {
-        RedeclarationId(n as u32)
-    }
-
-    /// Its number.
-    pub fn index(self) -> usize
-        ensures { result ≡ redeclaration.number_of self }
-    {
-        self.0 as usize
-    }
-}
+pub use redeclaration_id::RedeclarationId;
+pub use symbol_id::SymbolId;
 
 /// What declares a symbol.
 #[derive(Clone, Copy, Debug, PartialEq, Eq)]
@@ -80,6 +21,7 @@ pub struct SymbolFlags(u32);
 
 bitflag_items! {
     impl SymbolFlags: u32 {
+        /// Nothing is known.
         const NONE = 0;
         /// A `var` or a parameter.
         const FUNCTION_SCOPED_VARIABLE = 1 << 0;
@@ -87,6 +29,7 @@ bitflag_items! {
         const BLOCK_SCOPED_VARIABLE = 1 << 1;
         /// A `const`.
         const CONST_VARIABLE = 1 << 2;
+        /// A class.
         const CLASS = 1 << 3;
         /// The parameter of a catch clause.
         const CATCH_VARIABLE = 1 << 4;
@@ -96,11 +39,17 @@ bitflag_items! {
         const IMPORT = 1 << 6;
         /// A name that an `import type` brings.
         const TYPE_IMPORT = 1 << 7;
+        /// A `type` of TypeScript.
         const TYPE_ALIAS = 1 << 8;
+        /// An `interface`.
         const INTERFACE = 1 << 9;
+        /// An `enum`.
         const REGULAR_ENUM = 1 << 10;
+        /// A `const enum`.
         const CONST_ENUM = 1 << 11;
+        /// A member of an enum.
         const ENUM_MEMBER = 1 << 12;
+        /// A type parameter.
         const TYPE_PARAMETER = 1 << 13;
         /// A TypeScript namespace that holds types alone.
         const NAMESPACE_MODULE = 1 << 14;
@@ -110,9 +59,13 @@ bitflag_items! {
         const AMBIENT = 1 << 16;
         /// The own name of a function expression.
         const FUNCTION_EXPRESSION = 1 << 17;
+        /// A function that is async or a generator.
         const ASYNC_OR_GENERATOR_FUNCTION = 1 << 18;
+        /// An enum of either kind.
         const ENUM = Self::REGULAR_ENUM.0 | Self::CONST_ENUM.0;
+        /// A variable of either scope.
         const VARIABLE = Self::FUNCTION_SCOPED_VARIABLE.0 | Self::BLOCK_SCOPED_VARIABLE.0;
+        /// What its block alone sees.
         const BLOCK_SCOPED = Self::BLOCK_SCOPED_VARIABLE.0 | Self::ENUM.0 | Self::CLASS.0;
         /// What is there when the program runs.
         const VALUE = Self::VARIABLE.0
@@ -121,12 +74,14 @@ bitflag_items! {
             | Self::ENUM.0
             | Self::ENUM_MEMBER.0
             | Self::VALUE_MODULE.0;
+        /// What names a type.
         const TYPE = Self::CLASS.0
             | Self::INTERFACE.0
             | Self::ENUM.0
             | Self::ENUM_MEMBER.0
             | Self::TYPE_PARAMETER.0
             | Self::TYPE_ALIAS.0;
+        /// What names a namespace.
         const NAMESPACE = Self::VALUE_MODULE.0 | Self::NAMESPACE_MODULE.0 | Self::ENUM.0;
     }
 }
@@ -351,12 +306,14 @@ impl SymbolFlags {
 pub fn symbol_ids_compare_by_number(a: SymbolId, b: SymbolId)
     ensures equal { DecidesEquality ⟦<SymbolId as PartialEq>⟧.eq }
     ensures order { ⟦<SymbolId as Ord>⟧.cmp a b ≡ nat_cmp (id.number_of a) (id.number_of b) }
+    ensures known_by_number { id.number_of a ≡ id.number_of b → a ≡ b }
 {}
 
 /// The law that redeclaration ids compare as their numbers do.
 pub fn redeclaration_ids_compare_by_number(a: RedeclarationId, b: RedeclarationId)
     ensures equal { DecidesEquality ⟦<RedeclarationId as PartialEq>⟧.eq }
     ensures order { ⟦<RedeclarationId as Ord>⟧.cmp a b ≡ nat_cmp (redeclaration.number_of a) (redeclaration.number_of b) }
+    ensures known_by_number { redeclaration.number_of a ≡ redeclaration.number_of b → a ≡ b }
 {}
 
 /// The law that `==` holds exactly between symbol flags that are the same.

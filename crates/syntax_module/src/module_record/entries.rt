@@ -11,7 +11,10 @@ use syntax_sem::span::Span;
 /// A name and where it stands.
 #[derive(Clone, Debug, PartialEq, Eq, Drop)]
 pub struct NameSpan<'a> {
+    /// The text of the name.
     pub name: Str<'a>,
+
+    /// Where it stands.
     pub span: Span,
 }
 
@@ -46,6 +49,7 @@ pub struct ImportEntry<'a> {
 /// What is imported of a module.
 #[derive(Clone, Debug, PartialEq, Eq, Drop)]
 pub enum ImportImportName<'a> {
+    /// A name.
     Name(NameSpan<'a>),
     /// The whole module, by `* as`.
     NamespaceObject,
@@ -113,11 +117,13 @@ impl<'a> Default for ExportEntry<'a> {
 /// What an export takes of another module.
 #[derive(Clone, Debug, Default, PartialEq, Eq, Drop)]
 pub enum ExportImportName<'a> {
+    /// A name.
     Name(NameSpan<'a>),
     /// The whole module, by `* as`.
     All,
     /// All of it but its default export, by `*`.
     AllButDefault,
+    /// No name.
     #[default]
     Null,
 }
@@ -141,9 +147,11 @@ impl<'a> ExportImportName<'a> {
 /// The name under which something is exported.
 #[derive(Clone, Debug, Default, PartialEq, Eq, Drop)]
 pub enum ExportExportName<'a> {
+    /// A name.
     Name(NameSpan<'a>),
     /// `default`, and where it stands.
     Default(Span),
+    /// No name.
     #[default]
     Null,
 }
@@ -189,9 +197,11 @@ impl<'a> ExportExportName<'a> {
 /// The name in the module of what is exported.
 #[derive(Clone, Debug, Default, PartialEq, Eq, Drop)]
 pub enum ExportLocalName<'a> {
+    /// A name.
     Name(NameSpan<'a>),
     /// The name of a function or class that is exported by `export default`.
     Default(NameSpan<'a>),
+    /// No name.
     #[default]
     Null,
 }

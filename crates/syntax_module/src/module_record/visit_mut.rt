@@ -122,105 +122,97 @@ pub trait VisitMutModuleRecord {
         self.visit_export_local_name(&mut export_entry.local_name);
     }
 
+    /// Visits the requests of each module, in order.
+    fn visit_requested_modules(
+        &mut self,
+        requested_modules: &mut RecordList<(Str<'_>, RecordList<RequestedModule>)>,
+    )
+        ensures { (self.new, requested_modules.new)
+            ≡ spec.on_each (spec.on_requests step) self.old requested_modules.old }
+    {
+        for i in 0..requested_modules.len() {
+            let Some(requests) = requested_modules.get_mut(i) else {
+                return
+            };
+            self.visit_requests(&mut requests.1);
+        }
+    }
+
+    /// Visits each request, in order.
+    fn visit_requests(&mut self, requests: &mut RecordList<RequestedModule>)
+        ensures { (self.new, requests.new)
+            ≡ spec.on_each (spec.on_requested_module step) self.old requests.old }
+    {
+        for i in 0..requests.len() {
+            let Some(request) = requests.get_mut(i) else {
+                return
+            };
+            self.visit_requested_module(request);
+        }
+    }
+
+    /// Visits each entry, in order.
+    fn visit_import_entries(&mut self, import_entries: &mut RecordList<ImportEntry<'_>>)
+        ensures { (self.new, import_entries.new)
+            ≡ spec.on_each (spec.on_import_entry step) self.old import_entries.old }
+    {
+        for i in 0..import_entries.len() {
+            let Some(entry) = import_entries.get_mut(i) else {
+                return
+            };
+            self.visit_import_entry(entry);
+        }
+    }
+
+    /// Visits each entry, in order.
+    fn visit_export_entries(&mut self, export_entries: &mut RecordList<ExportEntry<'_>>)
+        ensures { (self.new, export_entries.new)
+            ≡ spec.on_each (spec.on_export_entry step) self.old export_entries.old }
+    {
+        for i in 0..export_entries.len() {
+            let Some(entry) = export_entries.get_mut(i) else {
+                return
+            };
+            self.visit_export_entry(entry);
+        }
+    }
+
+    /// Visits each call, in order.
+    fn visit_dynamic_imports(&mut self, dynamic_imports: &mut RecordList<DynamicImport>)
+        ensures { (self.new, dynamic_imports.new)
+            ≡ spec.on_each (spec.on_dynamic_import step) self.old dynamic_imports.old }
+    {
+        for i in 0..dynamic_imports.len() {
+            let Some(import) = dynamic_imports.get_mut(i) else {
+                return
+            };
+            self.visit_dynamic_import(import);
+        }
+    }
+
+    /// Visits each span, in order.
+    fn visit_spans(&mut self, spans: &mut RecordList<Span>)
+        ensures { (self.new, spans.new)
+            ≡ spec.on_each step self.old spans.old }
+    {
+        for i in 0..spans.len() {
+            let Some(span) = spans.get_mut(i) else { return };
+            self.visit_span(span);
+        }
+    }
+
     /// Visits the requested modules, the import entries, the local, indirect and star export entries, the calls of
     /// `import` and the places of `import.meta`, and not the exported bindings.
-    final fn visit_module_record(&mut self, module_record: &mut ModuleRecord<'_>)
-    where
-        Self: Sized,
+    fn visit_module_record(&mut self, module_record: &mut ModuleRecord<'_>)
         ensures { (self.new, module_record.new)
             ≡ spec.on_module_record step self.old module_record.old }
     {
-        visit_requested_modules(self, &mut module_record.requested_modules);
-        visit_import_entries(self, &mut module_record.import_entries);
-        visit_export_entries(self, &mut module_record.local_export_entries);
-        visit_export_entries(self, &mut module_record.indirect_export_entries);
-        visit_export_entries(self, &mut module_record.star_export_entries);
-        visit_dynamic_imports(self, &mut module_record.dynamic_imports);
-        visit_spans(self, &mut module_record.import_metas);
-    }
-}
-
-fn visit_requested_modules<V: VisitMutModuleRecord>(
-    visitor: &mut V,
-    modules: &mut RecordList<(Str<'_>, RecordList<RequestedModule>)>,
-)
-    ensures { (visitor.new, modules.new)
-        ≡ spec.on_each (spec.on_requests V.step) visitor.old modules.old }
-{
-    for i in 0..modules.len() {
-        let Some(requests) = modules.get_mut(i) else {
-            return
-        };
-        visit_requests(visitor, &mut requests.1);
-    }
-}
-
-fn visit_requests<V: VisitMutModuleRecord>(
-    visitor: &mut V,
-    requests: &mut RecordList<RequestedModule>,
-)
-    ensures { (visitor.new, requests.new)
-        ≡ spec.on_each (spec.on_requested_module V.step) visitor.old requests.old }
-{
-    for i in 0..requests.len() {
-        let Some(request) = requests.get_mut(i) else {
-            return
-        };
-        visitor.visit_requested_module(request);
-    }
-}
-
-fn visit_import_entries<V: VisitMutModuleRecord>(
-    visitor: &mut V,
-    entries: &mut RecordList<ImportEntry<'_>>,
-)
-    ensures { (visitor.new, entries.new)
-        ≡ spec.on_each (spec.on_import_entry V.step) visitor.old entries.old }
-{
-    for i in 0..entries.len() {
-        let Some(entry) = entries.get_mut(i) else {
-            return
-        };
-        visitor.visit_import_entry(entry);
-    }
-}
-
-fn visit_export_entries<V: VisitMutModuleRecord>(
-    visitor: &mut V,
-    entries: &mut RecordList<ExportEntry<'_>>,
-)
-    ensures { (visitor.new, entries.new)
-        ≡ spec.on_each (spec.on_export_entry V.step) visitor.old entries.old }
-{
-    for i in 0..entries.len() {
-        let Some(entry) = entries.get_mut(i) else {
-            return
-        };
-        visitor.visit_export_entry(entry);
-    }
-}
-
-fn visit_dynamic_imports<V: VisitMutModuleRecord>(
-    visitor: &mut V,
-    imports: &mut RecordList<DynamicImport>,
-)
-    ensures { (visitor.new, imports.new)
-        ≡ spec.on_each (spec.on_dynamic_import V.step) visitor.old imports.old }
-{
-    for i in 0..imports.len() {
-        let Some(import) = imports.get_mut(i) else {
-            return
-        };
-        visitor.visit_dynamic_import(import);
-    }
-}
-
-fn visit_spans<V: VisitMutModuleRecord>(visitor: &mut V, spans: &mut RecordList<Span>)
-    ensures { (visitor.new, spans.new)
-        ≡ spec.on_each V.step visitor.old spans.old }
-{
-    for i in 0..spans.len() {
-        let Some(span) = spans.get_mut(i) else { return };
-        visitor.visit_span(span);
+        self.visit_requested_modules(&mut module_record.requested_modules);
+        self.visit_import_entries(&mut module_record.import_entries);
+        self.visit_export_entries(&mut module_record.local_export_entries);
+        self.visit_export_entries(&mut module_record.indirect_export_entries);
+        self.visit_export_entries(&mut module_record.star_export_entries);
+        self.visit_dynamic_imports(&mut module_record.dynamic_imports);
+        self.visit_spans(&mut module_record.import_metas);
     }
 }

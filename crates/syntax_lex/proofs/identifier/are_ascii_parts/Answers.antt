@@ -1,8 +1,7 @@
-use Rattle.std.proofs.Common.{◌∙◌, sym, refl, get_or}
+use Rattle.std.proofs.Common.{◌∙◌, sym, refl, get_or, take_all}
 use Rattle.std.proofs.lemmas.Bool.{lt-ltb}
 use Rattle.std.proofs.lemmas.List.Folds.{list_all_at, list_all_more}
 use Rattle.syntax_lex.specs.Identifier.{is_ascii_part}
-use Rattle.syntax_lex.proofs.Blocks.{take_whole}
 use Rattle.syntax_lex.proofs.identifier.are_ascii_parts.Goals as goal
 
 pub loop-byte-preserved : goal.loop-byte-preserved
@@ -21,4 +20,4 @@ returns-then-not-is_identifier_part_ascii c =
     sym (list_all_at is_ascii_part c.args.bytes.now i 0 c.loop-byte-test.true (rw (other, lt-ltb b 128 (c.requires i)) refl))
 
 pub returns : goal.returns
-returns c = rw (take_whole c.args.bytes.now c.loop-byte.byte-index c.loop-byte-test.false) at (sym c.loop-byte.invariant)
+returns c = rw (take_all c.loop-byte.byte-index c.args.bytes.now c.loop-byte-test.false) at (sym c.loop-byte.invariant)

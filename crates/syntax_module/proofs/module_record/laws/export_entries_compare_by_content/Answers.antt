@@ -1,5 +1,6 @@
 use Rattle.std.proofs.Common.{◌≡◌, ◌↔◌, ◌∙◌, ◌&&◌, Bool, IsTrue, refl, sym, ap}
 use mathlib.Core.Bool.{beq}
+use Rattle.std.specs.Cmp.{booleans_Decides}
 use Rattle.std.specs.Option.{option_eq}
 use Rattle.syntax_module.specs.Contents.{export_entry, name_span}
 use Rattle.syntax_module.specs.declared.module_record.entries.ExportEntry.{ExportEntry}
@@ -9,7 +10,7 @@ use Rattle.syntax_module.specs.contracts.module_record.entries.ExportImportNameP
 use Rattle.syntax_module.specs.contracts.module_record.entries.ExportExportNamePartialEq.TheImpl as exported
 use Rattle.syntax_module.specs.contracts.module_record.entries.ExportLocalNamePartialEq.TheImpl as local
 use Rattle.syntax_sem.specs.contracts.span.SpanPartialEq.TheImpl as span
-use Rattle.syntax_module.proofs.Comparisons.{joined, flat7, paired7, optional, flags_equal}
+use Rattle.syntax_module.proofs.Comparisons.{joined, flat7, paired7, optional}
 use Rattle.syntax_module.proofs.module_record.laws.export_entries_compare_by_content.Goals as goal
 
 abbrev all_fields : ExportEntry → ExportEntry → Bool
@@ -34,5 +35,5 @@ returns c = λ a b.
     (joined (request a.module_request b.module_request)
     (joined (c.taken_names_compare_by_content.ensures a.import_name b.import_name)
     (joined (c.export_names_compare_by_content.ensures a.export_name b.export_name)
-    (joined (c.local_names_compare_by_content.ensures a.local_name b.local_name) (flags_equal a.is_type b.is_type)))))) in
+    (joined (c.local_names_compare_by_content.ensures a.local_name b.local_name) (booleans_Decides a.is_type b.is_type)))))) in
     (λ h. ap flat7 (all.0 (sym (tests_all a b) ∙ h)), λ e. tests_all a b ∙ all.1 (ap paired7 e))
