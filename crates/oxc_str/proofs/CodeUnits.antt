@@ -1,5 +1,5 @@
 -- Code units and their code points give each other back.
-use Rattle.std.proofs.Common.{◌≡◌, ℕ, ◌<◌, ◌≤◌, ◌+◌, ◌-◌, ◌/◌, ◌%◌, ⊎_elim, inl, inr, List, [], ◌∷◌, ◌++◌, get_or, Bool, true, false, ◌&&◌, nat_le, nat_lt, flat_map, arith, sym, ap, ◌∙◌, refl, subst, ltb-true, leb-true}
+use Rattle.std.proofs.Common.{◌≡◌, ℕ, ◌<◌, ◌≤◌, ◌+◌, ◌-◌, ◌/◌, ◌%◌, ⊎_elim, inl, inr, List, [], ◌∷◌, get_or, Bool, true, false, ◌&&◌, nat_le, nat_lt, flat_map, arith, sym, ap, ◌∙◌, refl, subst, ltb-true, leb-true}
 use Rattle.std.specs.Char.Escape.{encode_utf16}
 use Rattle.std.proofs.Math.Bool.{and-false}
 use Rattle.std.proofs.lemmas.Bool.{and_parts, cases_lt}

@@ -1,7 +1,6 @@
 pub mod AssignmentOperator
 pub mod BinaryOperator
 pub mod ESTarget
-pub mod Equality
 pub mod Identifier
 pub mod Keyword
 pub mod LineTerminator

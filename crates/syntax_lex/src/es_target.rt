@@ -4,7 +4,7 @@ ghost use Rattle.std.specs.Ordering.{nat_cmp};
 ghost use Rattle.std.specs.Prelude.{◌≡◌, IfErr, IfOk, None, Some};
 ghost use Rattle.std.specs.Str.{str_to_ascii_lowercase};
 ghost use Rattle.syntax_lex.specs.ESTarget as spec;
-ghost use Rattle.syntax_lex.specs.Equality.{DecidesEquality};
+ghost use Rattle.oxc_str.specs.Equality.{DecidesEquality};
 ghost use Rattle.syntax_lex.specs.declared.es_target.TargetError.TheVariants.{Memory};
 
 use oxc_str::CompactStr;

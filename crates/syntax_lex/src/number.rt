@@ -1,7 +1,7 @@
 //! The bases in which numbers are written (ECMA-262, 12.9.3).
 
 ghost use Rattle.std.specs.Prelude.{◌≡◌};
-ghost use Rattle.syntax_lex.specs.Equality.{DecidesEquality};
+ghost use Rattle.oxc_str.specs.Equality.{DecidesEquality};
 ghost use Rattle.syntax_lex.specs.Number as spec;
 
 /// The base in which a number is written.

@@ -3,7 +3,7 @@
 ghost use Rattle.std.specs.Prelude.{◌≡◌, ◌↔◌, Some};
 ghost use Rattle.syntax_lex.specs.AssignmentOperator as assignment_spec;
 ghost use Rattle.syntax_lex.specs.BinaryOperator as binary_spec;
-ghost use Rattle.syntax_lex.specs.Equality.{DecidesEquality};
+ghost use Rattle.oxc_str.specs.Equality.{DecidesEquality};
 ghost use Rattle.syntax_lex.specs.LogicalOperator as logical_spec;
 
 mod assignment;

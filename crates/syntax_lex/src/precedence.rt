@@ -2,7 +2,7 @@
 
 ghost use Rattle.std.specs.Ordering.{nat_cmp};
 ghost use Rattle.std.specs.Prelude.{◌≡◌, not};
-ghost use Rattle.syntax_lex.specs.Equality.{DecidesEquality};
+ghost use Rattle.oxc_str.specs.Equality.{DecidesEquality};
 ghost use Rattle.syntax_lex.specs.Precedence as spec;
 
 /// What has a precedence.

@@ -2,7 +2,6 @@ pub mod Bits
 pub mod ClassId
 pub mod ElementId
 pub mod ElementKind
-pub mod Equality
 pub mod NodeFlags
 pub mod NodeId
 pub mod RedeclarationId

@@ -6,7 +6,7 @@ ghost use Rattle.syntax_sem.specs.Bits.{has_all, has_any};
 ghost use Rattle.syntax_sem.specs.ClassId as class;
 ghost use Rattle.syntax_sem.specs.ElementId as element;
 ghost use Rattle.syntax_sem.specs.ElementKind as kind;
-ghost use Rattle.syntax_sem.specs.Equality.{DecidesEquality};
+ghost use Rattle.oxc_str.specs.Equality.{DecidesEquality};
 
 use bitflags::{Flag, Flags, bitflag_items};
 

@@ -1,6 +1,6 @@
 //! Values that are known before a program runs.
 
-ghost use Rattle.syntax_sem.specs.Equality.{DecidesEquality};
+ghost use Rattle.oxc_str.specs.Equality.{DecidesEquality};
 
 use oxc_str::CompactStr;
 

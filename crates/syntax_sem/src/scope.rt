@@ -4,7 +4,7 @@ ghost use Rattle.std.specs.Int.RustNames.{bit_or};
 ghost use Rattle.std.specs.Ordering.{nat_cmp};
 ghost use Rattle.std.specs.Prelude.{◌==◌, ◌≡◌, ◌||◌, ⊤, if◌then◌else◌};
 ghost use Rattle.syntax_sem.specs.Bits.{has_all, has_any};
-ghost use Rattle.syntax_sem.specs.Equality.{DecidesEquality};
+ghost use Rattle.oxc_str.specs.Equality.{DecidesEquality};
 ghost use Rattle.syntax_sem.specs.ScopeFlags as flags;
 ghost use Rattle.syntax_sem.specs.ScopeId as id;
 

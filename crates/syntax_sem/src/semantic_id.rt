@@ -1,7 +1,7 @@
 //! What becomes of ids where what they belong to is copied.
 
 ghost use Rattle.std.specs.Prelude.{◌≡◌, Option};
-ghost use Rattle.syntax_sem.specs.Equality.{DecidesEquality};
+ghost use Rattle.oxc_str.specs.Equality.{DecidesEquality};
 ghost use Rattle.syntax_sem.specs.SemanticId.{cloned_id, cloned_option};
 
 /// Whether a copy of a tree keeps the ids that semantic analysis gave it.

@@ -1,7 +1,7 @@
 //! Where a piece of source text lies.
 
 ghost use Rattle.std.specs.Prelude.{◌≡◌};
-ghost use Rattle.syntax_sem.specs.Equality.{DecidesEquality};
+ghost use Rattle.oxc_str.specs.Equality.{DecidesEquality};
 
 use oxc_estree::ESTreeSpan;
 

@@ -3,7 +3,7 @@
 ghost use Rattle.std.specs.Ordering.{nat_cmp};
 ghost use Rattle.std.specs.Prelude.{◌≡◌, ⊤};
 ghost use Rattle.syntax_sem.specs.Bits.{has_all, has_any};
-ghost use Rattle.syntax_sem.specs.Equality.{DecidesEquality};
+ghost use Rattle.oxc_str.specs.Equality.{DecidesEquality};
 ghost use Rattle.syntax_sem.specs.RedeclarationId as redeclaration;
 ghost use Rattle.syntax_sem.specs.SymbolFlags as flags;
 ghost use Rattle.syntax_sem.specs.SymbolId as id;
