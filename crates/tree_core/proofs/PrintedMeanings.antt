@@ -2,6 +2,7 @@
 -- that JSON can't hold.
 use Rattle.std.proofs.Common.{◌≡◌, ℕ, suc, List, [], ◌∷◌, ◌++◌, Bool, true, false, not, ◌&&◌, ◌||◌, Some, is_some, if◌then◌else◌, map, codes, refl, sym, ap, ◌∙◌, true≢false}
 use Rattle.std.specs.List.{list_all}
+use Rattle.std.proofs.Math.Bool.{and-false}
 use Rattle.json_text.specs.Json.{Json, member}
 use Rattle.json_text.specs.Units.{units_of}
 use Rattle.json_text.proofs.Units.{units_of-text_of_units}
@@ -21,10 +22,11 @@ use Rattle.tree_nodes.specs.declared.table.Class.{Class as FieldClass}
 use Rattle.tree_nodes.specs.declared.table.Class.TheVariants.{Pattern, Raw}
 use Rattle.tree_nodes.specs.declared.table.Mark.{Mark}
 use Rattle.tree_nodes.specs.declared.table.Mode.{Mode}
-use Rattle.tree_core.proofs.Ascii.{is_ascii, text_of_ascii}
+use Rattle.tree_core.specs.Readable.{is_ascii}
+use Rattle.tree_core.proofs.AsciiTexts.{text_of_ascii}
 use Rattle.tree_nodes.proofs.Cases.{both, not_true}
 use Rattle.tree_core.proofs.Fits.{FitFields, FitItems, Fits}
-use Rattle.tree_core.proofs.Printed.{put_always, rows_are_paired}
+use Rattle.tree_core.proofs.LeftToPrint.{put_always, rows_are_paired}
 use Rattle.tree_core.proofs.ReadsBack.{tree_fits}
 use Rattle.tree_core.proofs.RowFacts.{row_sound}
 
@@ -171,10 +173,6 @@ atom_unmarked : (marked : Bool) (class : FieldClass) (a : Atom) → (marked && i
 atom_unmarked marked class empty h = ap (λ b. (null_meaning b).marks) h
 atom_unmarked marked class a h = refl
 
-and_false : (b : Bool) → (b && false) ≡ false
-and_false true = refl
-and_false false = refl
-
 abbrev FirstIsUnmarked : List Field → Type 0
 FirstIsUnmarked [] = Unit {0}
 FirstIsUnmarked (g ∷ more) = g.meaning.marks ≡ []
@@ -208,7 +206,7 @@ module _ (marked : Bool) (k : List ℕ) (mode : Mode) (inner : Bool) (mark : Mar
       shown e =
           let o = (both omit (is_null_atom a) e).0 in
           let v : is_value_class class ≡ false = sym (ap (λ b. b && is_value_class class) o) ∙ not_true _ h in
-          ap (λ b. marked && b) v ∙ and_false marked
+          ap (λ b. marked && b) v ∙ and-false marked
 
       by_test : (b : Bool) → (omit && is_null_atom a) ≡ b
           → field_marks (if b then rest else field k (atom_meaning marked class a) ∷ rest) ≡ own class a ++ field_marks rest
@@ -218,15 +216,15 @@ module _ (marked : Bool) (k : List ℕ) (mode : Mode) (inner : Bool) (mark : Mar
   put_marks : (class : FieldClass) (a : Atom) (rest : List Field) → not (omit && is_value_class class) ≡ true
       → (is_some (object_key class) ≡ true → FirstIsUnmarked rest)
       → field_marks (put_field marked (marked_column class) a rest) ≡ own class a ++ field_marks rest
-  put_marks Pattern a rest h first = by_test (is_null_atom a) ∙ sym (no_own Pattern a rest (and_false marked))
+  put_marks Pattern a rest h first = by_test (is_null_atom a) ∙ sym (no_own Pattern a rest (and-false marked))
     where
       by_test : (b : Bool) → field_marks (if b then without_next rest else held_field (codes "regex") (field k (atom_meaning marked Pattern a)) rest)
           ≡ field_marks rest
       by_test true = next_marks rest (first refl)
-      by_test false = held_marks (codes "regex") (field k (atom_meaning marked Pattern a)) rest (atom_unmarked marked Pattern a (and_false marked)) (first refl)
+      by_test false = held_marks (codes "regex") (field k (atom_meaning marked Pattern a)) rest (atom_unmarked marked Pattern a (and-false marked)) (first refl)
   put_marks Raw a rest h first =
-      held_marks (codes "value") (field k (atom_meaning marked Raw a)) rest (atom_unmarked marked Raw a (and_false marked)) (first refl)
-      ∙ sym (no_own Raw a rest (and_false marked))
+      held_marks (codes "value") (field k (atom_meaning marked Raw a)) rest (atom_unmarked marked Raw a (and-false marked)) (first refl)
+      ∙ sym (no_own Raw a rest (and-false marked))
   put_marks class a rest h first = plain_marks class a rest h
 
 -- what the lemmas ask of columns

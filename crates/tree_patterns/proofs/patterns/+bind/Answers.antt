@@ -7,8 +7,9 @@ use Rattle.tree_nodes.specs.Table.{row}
 use Rattle.tree_nodes.specs.Tree.{Tree}
 use Rattle.tree_nodes.specs.Views.{part_of}
 use Rattle.tree_nodes.specs.declared.kind.Kind.TheVariants.{Identifier}
+use Rattle.tree_nodes.proofs.Lists.{past_end, past_items, past_len}
 use Rattle.tree_patterns.specs.BoundNames.{bound, bound_in, declares, declaring}
-use Rattle.tree_patterns.proofs.Runs.{if_so, map_end, next_field, next_item, no_field, no_item, of_identifier, of_list, of_other, on_ok, past_end, past_items, past_len}
+use Rattle.tree_patterns.proofs.BoundAlong.{if_so, map_end, next_field, next_item, no_field, no_item, of_identifier, of_list, of_other, on_ok}
 use Rattle.tree_patterns.proofs.patterns.+bind.Goals as goal
 use Rattle.tree_patterns.proofs.patterns.+bind.Goals.{bind_fields-then-field_declares+in_ok-bind_field, bind_fields-else-field_declares}
 
