@@ -43,8 +43,13 @@ fn a_name_is_found(rt: HostRuntime) -> Result<(), Fail> {
     };
     let copy = node.try_clone(rt.alloc())?;
     assert_eq!(rt; first_text(&copy.fields), "a");
-    let fields = FieldList::from_vec(vec![in rt.alloc(); Field::Child(Box::new(rt.alloc(), copy)?)]?);
-    assert_eq!(rt; (own_name_at(&fields, 0), own_name_at(&fields, 1)), ("a", ""));
+    let fields = FieldList::from_vec(vec![in rt.alloc();
+        Field::Child(Box::new(rt.alloc(), copy)?),
+    ]?);
+    assert_eq!(rt;
+        (own_name_at(&fields, 0), own_name_at(&fields, 1)),
+        ("a", "")
+    );
     assert_eq!(rt; (fields.len(), fields.into_vec().len()), (1, 1));
     Ok(())
 }

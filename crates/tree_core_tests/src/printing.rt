@@ -36,12 +36,32 @@ fn literals(rt: HostRuntime) -> Result<(), Fail> {
     let path = "[[\"body\",0,\"expression\"]]";
     for (fields, wanted, fixes) in [
         ("'value':0,'raw':'x'", "'value':0,'raw':'x'", "[]"),
-        ("'value':18446744073709551615", "'value':18446744073709551615,'raw':null", "[]"),
-        ("'value':'a\\ud83d\\ude00'", "'value':'a\u{1f600}','raw':null", "[]"),
+        (
+            "'value':18446744073709551615",
+            "'value':18446744073709551615,'raw':null",
+            "[]",
+        ),
+        (
+            "'value':'a\\ud83d\\ude00'",
+            "'value':'a\u{1f600}','raw':null",
+            "[]",
+        ),
         ("'value':[55296]", "'value':'\\ud800','raw':null", "[]"),
-        ("'value':[56832,55357,97]", "'value':'\\ude00\\ud83da','raw':null", "[]"),
-        ("'value':[55357,56832]", "'value':'\u{1f600}','raw':null", "[]"),
-        ("'value':false,'regex':null,'bigint':null", "'value':false,'raw':null", "[]"),
+        (
+            "'value':[56832,55357,97]",
+            "'value':'\\ude00\\ud83da','raw':null",
+            "[]",
+        ),
+        (
+            "'value':[55357,56832]",
+            "'value':'\u{1f600}','raw':null",
+            "[]",
+        ),
+        (
+            "'value':false,'regex':null,'bigint':null",
+            "'value':false,'raw':null",
+            "[]",
+        ),
         ("'raw':'null'", "'value':null,'raw':'null'", "[]"),
         ("'value':null,'raw':'1.5'", "'value':null,'raw':'1.5'", "[]"),
         (
@@ -49,7 +69,11 @@ fn literals(rt: HostRuntime) -> Result<(), Fail> {
             "'value':null,'raw':'/a/g','regex':{'pattern':'a','flags':'g'}",
             path,
         ),
-        ("'bigint':'1','raw':'1n'", "'value':null,'raw':'1n','bigint':'1'", path),
+        (
+            "'bigint':'1','raw':'1n'",
+            "'value':null,'raw':'1n','bigint':'1'",
+            path,
+        ),
     ] {
         let fields = format!(in alloc; "{{'type':'Literal',{fields}}}")?;
         let wanted = format!(in alloc; "{{'type':'Literal',{wanted}}}")?;
@@ -66,7 +90,10 @@ fn template_elements(rt: HostRuntime) -> Result<(), Fail> {
     for (value, wanted) in [
         ("'cooked':'a','raw':'a'", "'raw':'a','cooked':'a'"),
         ("'raw':'\\\\u'", "'raw':'\\\\u','cooked':null"),
-        ("'raw':[92,55296],'cooked':[55296]", "'raw':'\\\\\\ud800','cooked':'\\ud800'"),
+        (
+            "'raw':[92,55296],'cooked':[55296]",
+            "'raw':'\\\\\\ud800','cooked':'\\ud800'",
+        ),
     ] {
         let value = format!(in alloc;
             "{{'type':'TemplateLiteral','quasis':[{{'type':'TemplateElement','value':{{{value}}},'tail':true}}],'expressions':[]}}"

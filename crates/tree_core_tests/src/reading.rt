@@ -21,16 +21,37 @@ fn outcome(alloc: Global, text: &str, more: usize) -> Result<String, Fail> {
 fn values_that_are_programs(rt: HostRuntime) -> Result<(), Fail> {
     for (text, wanted) in [
         ("null", "bad tree"),
-        ("{'sourceType':'script','body':[],'type':'Program'}", "Script"),
-        ("{'type':'Program','sourceType':'commonjs','body':[]}", "CommonJs"),
+        (
+            "{'sourceType':'script','body':[],'type':'Program'}",
+            "Script",
+        ),
+        (
+            "{'type':'Program','sourceType':'commonjs','body':[]}",
+            "CommonJs",
+        ),
         ("{'type':'Program','sourceType':'x','body':[]}", "bad tree"),
         ("{'type':'Program','body':[]}", "bad tree"),
         ("{'type':'Program','sourceType':'script'}", "bad tree"),
-        ("{'type':'Program','sourceType':'script','body':[],'range':null}", "Script"),
-        ("{'type':'Program','sourceType':'script','body':[],'range':1}", "bad tree"),
-        ("{'type':'Program','sourceType':'script','body':[],'start':4294967295}", "Script"),
-        ("{'type':'Program','sourceType':'script','body':[],'end':4294967296}", "bad tree"),
-        ("{'type':'Program','sourceType':'script','body':[],'start':-1}", "bad tree"),
+        (
+            "{'type':'Program','sourceType':'script','body':[],'range':null}",
+            "Script",
+        ),
+        (
+            "{'type':'Program','sourceType':'script','body':[],'range':1}",
+            "bad tree",
+        ),
+        (
+            "{'type':'Program','sourceType':'script','body':[],'start':4294967295}",
+            "Script",
+        ),
+        (
+            "{'type':'Program','sourceType':'script','body':[],'end':4294967296}",
+            "bad tree",
+        ),
+        (
+            "{'type':'Program','sourceType':'script','body':[],'start':-1}",
+            "bad tree",
+        ),
         (
             "{'type':'Program','sourceType':'script','body':[{'type':'Program','sourceType':'script','body':[]}]}",
             "bad tree",

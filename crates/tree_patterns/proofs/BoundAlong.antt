@@ -24,10 +24,6 @@ pub on_ok : {T E P Q : Type 0} (r : Result T E) → (P → Q) → OnOk r P → O
 on_ok (Ok x) f p = f p
 on_ok (Err x) f p = p
 
-pub map_end : {A B : Type 0} (f : A → B) (xs : List A) (x : A) → map f (xs ++ (x ∷ [])) ≡ map f xs ++ (f x ∷ [])
-map_end f [] x = refl
-map_end f (y ∷ xs) x = ap (λ ys. f y ∷ ys) (map_end f xs x)
-
 -- what a node binds that stands where it declares
 abbrev pub of_node : Tree → List Tree
 of_node t = if is_kind t.kind Identifier then t ∷ [] else bound t.fields (each (row t.kind).columns) t.fields

@@ -12,9 +12,7 @@ ghost use Rattle.tree_patterns.specs.BoundNames.{bound, bound_in, trees_of};
 use std::alloc::{AllocError, Global};
 use std::marker::Model;
 use tree_nodes::roles::role_at;
-use tree_nodes::{
-    Column, Declared, Field, FieldList, Kind, Node, NodeList, Role, get_column, row,
-};
+use tree_nodes::{Column, Declared, Field, FieldList, Kind, Node, NodeList, Role, get_column, row};
 
 /// Nodes of a tree, by reference. Contracts see it as the list of them.
 #[derive(Drop)]
