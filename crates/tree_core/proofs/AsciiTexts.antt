@@ -1,6 +1,5 @@
 -- ASCII texts are their own code units.
-use Rattle.std.proofs.Common.{◌≡◌, ℕ, zero, suc, List, [], ◌∷◌, Bool, true, nat_lt, Some, sym, ap, ◌∙◌, arith, ltb-true, IsAscii}
-use Rattle.std.specs.List.{list_all}
+use Rattle.std.proofs.Common.{◌≡◌, ℕ, zero, suc, List, [], ◌∷◌, true, nat_lt, Some, sym, ap, ◌∙◌, arith, ltb-true, IsAscii}
 use Rattle.std.proofs.lemmas.Str.{IsUtf8-from_ascii}
 use Rattle.json_text.specs.Units.{text_of_units}
 use Rattle.json_text.proofs.Units.{text_of_units-units_of, units_of-IsAscii}

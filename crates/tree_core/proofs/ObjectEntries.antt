@@ -5,7 +5,7 @@ use Rattle.json_text.specs.HasText.{AreCodeUnits, HasText, MembersHaveText}
 use Rattle.tree_nodes.specs.Look.{onto}
 use Rattle.tree_core.specs.Reading.{are_distinct, find_member, is_listed, only_known, outer_key, part_in, run_of}
 use Rattle.tree_nodes.specs.Table.{Column}
-use Rattle.tree_nodes.specs.Tree.{Parts, atom, child, done, many}
+use Rattle.tree_nodes.specs.Tree.{Parts, done}
 use Rattle.tree_nodes.proofs.Cases.{bytes_differ, bytes_same, bytes_turned, map_some, neither, or_true, some_same, then_some}
 use Rattle.tree_nodes.proofs.Onto.{onto_assoc}
 use Rattle.tree_core.proofs.FieldUnderKey.{part_found, part_in-part_found}

@@ -1,5 +1,5 @@
 -- The members of an object of `serde_json` beside those of the JSON value that it is.
-use Rattle.std.proofs.Common.{◌⊎◌, inl, inr, ◌≡◌, ℕ, zero, suc, ◌≤◌, List, [], ◌∷◌, Bool, true, false, true≢false, ◌&&◌, ◌||◌, nat_lt, nat_eq, length, Option, Some, None, option_map, IfSome, Bor, String, Global, string_bytes, Ordering, Less, Equal, Greater, string_cmp, nat_cmp, is_eq, bytes_eq, codes, IsTrue, IsUtf8, IsAscii, if◌then◌else◌, refl, sym, ap, ◌∙◌, arith, rules}
+use Rattle.std.proofs.Common.{inl, inr, ◌≡◌, ℕ, ◌≤◌, List, [], ◌∷◌, Bool, true, false, ◌||◌, nat_eq, length, Option, Some, None, option_map, IfSome, Bor, String, Global, string_bytes, Ordering, Less, Equal, Greater, string_cmp, nat_cmp, is_eq, bytes_eq, codes, IsTrue, IsUtf8, if◌then◌else◌, refl, sym, ap, ◌∙◌, arith, rules}
 use Rattle.std.specs.Cmp.Lexicographic.{slice_cmp}
 use Rattle.std.specs.List.{AllByRecursion}
 use Rattle.std.specs.List.Sorted.{IsStrictlySortedBy}

@@ -1,20 +1,19 @@
 -- What the reader's loops keep: what is read so far stands before what is left.
-use Rattle.std.proofs.Common.{◌≡◌, ℕ, zero, suc, get_or, ◌<◌, ◌≤◌, List, [], ◌∷◌, ◌++◌, length, map, Bool, true, false, true≢false, ◌&&◌, bytes_eq, IsTrue, Option, Some, None, option_map, if◌then◌else◌, refl, sym, ap, ◌∙◌, drop, ◌+◌, arith}
+use Rattle.std.proofs.Common.{◌≡◌, ℕ, zero, suc, get_or, ◌<◌, ◌≤◌, List, [], ◌∷◌, ◌++◌, length, map, Bool, IsTrue, Option, Some, None, option_map, refl, sym, ap, ◌∙◌, drop, ◌+◌, arith}
 use Rattle.std.proofs.lemmas.Bool.{and_parts}
 use Rattle.std.proofs.lemmas.List.{drop_more, drop_all}
-use Rattle.json_text.specs.Json.{Json, Members, no_members, member}
+use Rattle.json_text.specs.Json.{Members}
 use Rattle.serde_json.specs.Data.{depth, items_depth}
 use Rattle.serde_json.specs.View.{view, items_view}
 use Rattle.serde_json.specs.declared.value.Value.{Value}
 use Rattle.tree_core.specs.JsonOf.{json_of}
 use Rattle.tree_core.specs.JsonOf as json
-use Rattle.tree_nodes.specs.Tree.{Tree, Parts, done, atom, child, many, before, empty}
+use Rattle.tree_nodes.specs.Tree.{Tree, Parts, atom, before, empty}
 use Rattle.tree_nodes.specs.Look.{onto}
-use Rattle.tree_core.specs.Readable.{is_readable, are_readable, field_from, fields_in, item_from}
-use Rattle.tree_core.specs.Reading.{absent, find_member, outer_key, part_in, items_from}
+use Rattle.tree_core.specs.Readable.{is_readable, are_readable, fields_in, item_from}
+use Rattle.tree_core.specs.Reading.{part_in, items_from}
 use Rattle.tree_nodes.proofs.Onto.{onto_assoc, onto_done}
 use Rattle.tree_nodes.specs.Rows.{column_of}
-use Rattle.tree_nodes.specs.Table.{Column}
 use Rattle.tree_nodes.specs.Views.{part_of, parts_of, item_of, items_of}
 use Rattle.tree_nodes.specs.declared.node.Field.{Field}
 use Rattle.tree_nodes.specs.declared.table.Column.{Column as RustColumn}

@@ -1,5 +1,5 @@
 -- Each row has columns that the reader takes.
-use Rattle.std.proofs.Common.{◌≡◌, ℕ, List, [], ◌∷◌, Bool, true, false, true≢false, ◌&&◌, Bor, Option, None, Some, IfSome, bytes_eq, map, option_map, IsTrue, if◌then◌else◌, refl, sym, ap, ◌∙◌}
+use Rattle.std.proofs.Common.{◌≡◌, ℕ, List, [], ◌∷◌, Bool, true, false, Bor, Option, None, Some, IfSome, bytes_eq, map, option_map, IsTrue, if◌then◌else◌, refl, sym, ap, ◌∙◌}
 use Rattle.std.specs.List.{list_all}
 use Rattle.std.proofs.lemmas.Bool.{and_parts}
 use Rattle.tree_nodes.specs.declared.kind.Kind.{Kind}

@@ -1,5 +1,5 @@
 -- Reading undoes printing, and the text of what is printed reads as it.
-use Rattle.std.proofs.Common.{◌≡◌, true, Option, Some, None, option_and_then, if◌then◌else◌, ap, ◌∙◌, subst}
+use Rattle.std.proofs.Common.{◌≡◌, true, Some, ap, ◌∙◌, subst}
 use Rattle.json_text.specs.Json.{Json}
 use Rattle.json_text.specs.HasText.{HasText}
 use Rattle.json_text.proofs.Texts.{text_reads_alone}

@@ -1,5 +1,5 @@
 -- Taking apart tests, options and comparisons of texts.
-use Rattle.std.proofs.Common.{◌≡◌, ℕ, List, Bool, true, false, not, ◌&&◌, ◌||◌, Option, Some, None, option_map, option_and_then, if◌then◌else◌, refl, sym, ◌∙◌, true≢false, bytes_eq}
+use Rattle.std.proofs.Common.{◌≡◌, ℕ, List, Bool, true, false, ◌||◌, Option, Some, None, option_map, option_and_then, if◌then◌else◌, refl, sym, ◌∙◌, true≢false, bytes_eq}
 use Rattle.std.proofs.lemmas.Slice.Eq.{bytes_eq-Decides}
 pub use Rattle.std.proofs.lemmas.Bool.{and_parts as both, not-true as not_true, or_parts as neither}
 pub use Rattle.std.proofs.lemmas.Option.{same_Some as some_same}

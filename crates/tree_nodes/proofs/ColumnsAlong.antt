@@ -1,5 +1,5 @@
 -- The columns beside a run: the one that `get` finds, the role that the first gives, and those past it.
-use Rattle.std.proofs.Common.{◌≡◌, ℕ, zero, suc, List, [], ◌∷◌, drop, map, slice_get, Option, Some, None, refl, ap}
+use Rattle.std.proofs.Common.{◌≡◌, ℕ, zero, suc, List, [], ◌∷◌, drop, map, slice_get, Some, None, refl, ap}
 use Rattle.tree_nodes.specs.Along.{Along, each, first_column, other_columns}
 use Rattle.tree_nodes.specs.Roles.{role_at}
 use Rattle.tree_nodes.specs.Rows.{column_of}

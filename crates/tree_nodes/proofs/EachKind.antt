@@ -1,5 +1,5 @@
 -- What holds of each kind: kinds of one number are one kind, and a test that passes on the list of all kinds passes on each.
-use Rattle.std.proofs.Common.{◌≡◌, ℕ, zero, suc, get_or, List, [], ◌∷◌, Bool, true, ◌&&◌, nat_eq, sym, ap, ◌∙◌, subst}
+use Rattle.std.proofs.Common.{◌≡◌, ℕ, zero, suc, get_or, List, [], ◌∷◌, Bool, true, nat_eq, sym, ap, ◌∙◌, subst}
 use Rattle.std.specs.List.{list_all}
 use Rattle.std.proofs.lemmas.Bool.{and_parts, eqb-true}
 use Rattle.tree_nodes.specs.Kinds.{all_kinds, kind_at, kind_at-kind_number, kind_number}

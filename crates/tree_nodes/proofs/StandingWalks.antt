@@ -1,16 +1,14 @@
 -- The walk along the columns, at one step of its loops.
-use Rattle.std.proofs.Common.{map, slice_get, ◌≡◌, ℕ, zero, suc, ◌+◌, Bool, true, false, ◌&&◌, List, [], ◌∷◌, drop, Option, Some, None, refl, sym, ap, ap₂, ◌∙◌, arith}
+use Rattle.std.proofs.Common.{◌≡◌, ℕ, zero, suc, ◌+◌, Bool, true, false, ◌&&◌, List, drop, Option, Some, refl, sym, ap, ap₂, ◌∙◌, arith}
 use Rattle.std.proofs.Math.Bool.{and-true, and_assoc}
 use Rattle.tree_nodes.specs.declared.table.Class.{Class as FieldClass}
 use Rattle.tree_nodes.specs.declared.table.Role.{Role}
-use Rattle.tree_nodes.specs.declared.table.Column.{Column as RustColumn}
 use Rattle.tree_nodes.specs.Tree.{Tree, Parts, done, atom, child, many, alone}
 use Rattle.tree_nodes.specs.Look.{past, onto, part_at, item_at, are_items}
 use Rattle.tree_nodes.specs.Views.{item_of}
-use Rattle.tree_nodes.specs.Table.{Column, row, unlisted}
+use Rattle.tree_nodes.specs.Table.{Column, row}
 use Rattle.tree_nodes.specs.Along.{Along, each, all, first_column, other_columns}
 use Rattle.tree_nodes.specs.Roles.{role_at}
-use Rattle.tree_nodes.specs.Rows.{column_of}
 use Rattle.tree_nodes.specs.Standing.{group_admits, is_sound, stands, stands_in}
 use Rattle.tree_nodes.proofs.ColumnsAlong.{given, other_drop}
 use Rattle.tree_nodes.proofs.Lists.{past_item}

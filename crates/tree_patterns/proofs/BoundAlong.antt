@@ -1,18 +1,16 @@
 -- The bound names of runs of parts: of one before another, and of one from its i-th part on.
-use Rattle.std.proofs.Common.{◌≡◌, ℕ, zero, suc, ◌+◌, ◌≤◌, Bool, true, false, List, [], ◌∷◌, ◌++◌, drop, map, slice_get, Result, OnOk, Option, Some, None, if◌then◌else◌, refl, sym, ap, ap₂, ◌∙◌, arith}
+use Rattle.std.proofs.Common.{◌≡◌, ℕ, zero, suc, ◌+◌, Bool, true, false, List, [], ◌∷◌, ◌++◌, drop, Result, OnOk, Option, Some, if◌then◌else◌, refl, sym, ap, ap₂, ◌∙◌, arith}
 use Rattle.std.specs.Prelude.{Ok, Err}
 use Rattle.std.proofs.lemmas.List.{append-nil, append_assoc}
 use Rattle.tree_nodes.specs.Along.{Along, all, each, first_column, other_columns}
 use Rattle.tree_nodes.specs.Kinds.{is_kind}
-use Rattle.tree_nodes.specs.Look.{are_items, item_at, onto, part_at, parts_len, past}
+use Rattle.tree_nodes.specs.Look.{are_items, item_at, onto, part_at, past}
 use Rattle.tree_nodes.specs.Roles.{role_at}
-use Rattle.tree_nodes.specs.Rows.{column_of}
 use Rattle.tree_nodes.specs.Standing.{declares_role}
 use Rattle.tree_nodes.specs.Table.{Column, row, unlisted}
-use Rattle.tree_nodes.specs.Tree.{Parts, Tree, alone, atom, child, done, empty, flag, many, text, units, whole, word}
+use Rattle.tree_nodes.specs.Tree.{Parts, Tree, alone, atom, child, done, many}
 use Rattle.tree_nodes.specs.Views.{item_of}
 use Rattle.tree_nodes.specs.declared.kind.Kind.TheVariants.{Identifier}
-use Rattle.tree_nodes.specs.declared.table.Column.{Column as RustColumn}
 use Rattle.tree_nodes.proofs.ColumnsAlong.{other_drop}
 use Rattle.tree_nodes.proofs.Lists.{past_item}
 use Rattle.tree_patterns.specs.BoundNames.{bound, bound_in, declares, declaring}

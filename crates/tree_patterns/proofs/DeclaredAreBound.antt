@@ -1,5 +1,5 @@
 -- Bound names by roles: which role declares makes no difference.
-use Rattle.std.proofs.Common.{◌≡◌, Bool, true, false, not, ◌&&◌, List, [], ◌∷◌, ◌++◌, if◌then◌else◌, refl, sym, ap, ap₂, ◌∙◌, true≢false}
+use Rattle.std.proofs.Common.{◌≡◌, Bool, true, false, not, ◌&&◌, List, [], ◌∷◌, ◌++◌, if◌then◌else◌, refl, ap, ap₂, ◌∙◌}
 use Rattle.std.proofs.lemmas.Bool.{and_parts}
 use Rattle.std.proofs.lemmas.List.Elements.{All-append, All-cons, All-nil}
 use Rattle.std.specs.Prelude.{All}
@@ -9,7 +9,6 @@ use Rattle.tree_nodes.specs.Roles.{role_at}
 use Rattle.tree_nodes.specs.Standing.{declares_role}
 use Rattle.tree_nodes.specs.Table.{row}
 use Rattle.tree_nodes.specs.Tree.{Parts, Tree, alone, atom, child, done, many}
-use Rattle.tree_nodes.specs.declared.kind.Kind.{Kind}
 use Rattle.tree_nodes.specs.declared.kind.Kind.TheVariants.{Identifier}
 use Rattle.tree_nodes.specs.declared.table.Declared.{Declared}
 use Rattle.tree_nodes.specs.declared.table.Mode.{Mode}
