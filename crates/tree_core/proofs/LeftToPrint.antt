@@ -19,7 +19,6 @@ use Rattle.tree_nodes.specs.Tree.{Atom, Parts, Tree, atom, child, done, empty, i
 use Rattle.tree_core.specs.Values.{is_marked, is_null_atom, word_text}
 use Rattle.tree_nodes.specs.Views.{item_of, part_of}
 use Rattle.tree_nodes.specs.declared.kind.Kind.{Kind}
-use Rattle.tree_nodes.specs.declared.kind.Kind.TheVariants.{Program}
 use Rattle.tree_nodes.specs.declared.node.Field.{Field as NodeField}
 use Rattle.tree_nodes.specs.declared.table.Class.{Class as FieldClass}
 use Rattle.tree_nodes.specs.declared.table.Column.{Column as RowColumn}
@@ -30,13 +29,13 @@ use Rattle.tree_core.specs.Readable.{is_ascii}
 use Rattle.tree_core.proofs.AsciiTexts.{text_of_ascii}
 use Rattle.tree_nodes.proofs.Cases.{both, none_some, not_true, some_same}
 use Rattle.tree_core.proofs.FieldClasses.{is_empty-atom}
+use Rattle.tree_nodes.proofs.EachKind.{of_each}
 use Rattle.tree_nodes.proofs.Lists.{past_end, past_item, past_len}
 use Rattle.tree_core.proofs.RowFacts.{ascii_words}
 
 -- in each row a field that shares its object stands before one that does so with no other
 pub rows_are_paired : (k : Kind) → are_paired (row k).columns ≡ true
-rows_are_paired Program = refl
-rows_are_paired _ = refl
+rows_are_paired = of_each (λ k. are_paired (row k).columns) refl refl
 
 -- ---- a node
 

@@ -17,7 +17,7 @@ use Rattle.tree_nodes.specs.Tree.{Atom, Parts, Tree, atom, child, done, empty, f
 use Rattle.tree_core.specs.Values.{atom_value, fields_paths, fields_value, fix_paths, is_marked, is_null_atom, items_paths, items_value, meaning_of, node_value, own_path, put_member, value_of}
 use Rattle.tree_core.specs.Values as values
 use Rattle.tree_nodes.specs.declared.kind.Kind.{Kind}
-use Rattle.tree_nodes.specs.declared.kind.Kind.TheVariants.{Literal, Program}
+use Rattle.tree_nodes.specs.declared.kind.Kind.TheVariants.{Literal}
 use Rattle.tree_nodes.specs.declared.table.Class.{Class as FieldClass}
 use Rattle.tree_nodes.specs.declared.table.Class.TheVariants.{Pattern, Raw}
 use Rattle.tree_nodes.specs.declared.table.Mark.{Mark}
@@ -25,6 +25,7 @@ use Rattle.tree_nodes.specs.declared.table.Mode.{Mode}
 use Rattle.tree_core.specs.Readable.{is_ascii}
 use Rattle.tree_core.proofs.AsciiTexts.{text_of_ascii}
 use Rattle.tree_nodes.proofs.Cases.{both, not_true}
+use Rattle.tree_nodes.proofs.EachKind.{of_each}
 use Rattle.tree_core.proofs.Fits.{FitFields, FitItems, Fits}
 use Rattle.tree_core.proofs.LeftToPrint.{put_always, rows_are_paired}
 use Rattle.tree_core.proofs.ReadsBack.{tree_fits}
@@ -37,8 +38,7 @@ abbrev has_ascii_key : Column → Bool
 has_ascii_key c = is_ascii c.key
 
 ascii_keys : (k : Kind) → list_all has_ascii_key (row k).columns ≡ true
-ascii_keys Program = refl
-ascii_keys _ = refl
+ascii_keys = of_each (λ k. list_all has_ascii_key (row k).columns) refl refl
 
 own_units : (bytes : List ℕ) → is_ascii bytes ≡ true → units_of bytes ≡ bytes
 own_units bytes e = units_of-text_of_units bytes bytes (text_of_ascii bytes e)
@@ -149,8 +149,7 @@ are_steady [] = true
 are_steady (c ∷ cs) = is_steady c cs && are_steady cs
 
 rows_are_steady : (k : Kind) → are_steady (row k).columns ≡ true
-rows_are_steady Program = refl
-rows_are_steady _ = refl
+rows_are_steady = of_each (λ k. are_steady (row k).columns) refl refl
 
 -- of a node whose `value` is marked: only the first field may hold a `value`
 abbrev later_mark_nothing : Bool → List Column → Bool
@@ -158,10 +157,8 @@ later_mark_nothing marked [] = true
 later_mark_nothing marked (c ∷ cs) = list_all (marks_nothing marked) cs
 
 rows_mark_first : (marked : Bool) (k : Kind) → later_mark_nothing marked (row k).columns ≡ true
-rows_mark_first true Program = refl
-rows_mark_first false Program = refl
-rows_mark_first true _ = refl
-rows_mark_first false _ = refl
+rows_mark_first true = of_each (λ k. later_mark_nothing true (row k).columns) refl refl
+rows_mark_first false = of_each (λ k. later_mark_nothing false (row k).columns) refl refl
 
 -- the mark of a first field that is a `value`
 abbrev own_marks : Bool → Parts → List Column → List (List Part)

@@ -5,7 +5,7 @@ pub mod RowNames
 -- runs of parts, and the columns beside them
 pub mod Onto
 pub mod Lists
-pub mod PartFound
+pub mod Beside
 pub mod ColumnsAlong
 -- literals, and where nodes may stand
 pub mod LiteralCases

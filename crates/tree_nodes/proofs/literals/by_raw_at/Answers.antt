@@ -1,6 +1,6 @@
 use Rattle.std.proofs.Common.{ap, ◌∙◌}
 use Rattle.tree_nodes.specs.Literals.{by_raw}
-use Rattle.tree_nodes.proofs.PartFound.{part_found, part_missing}
+use Rattle.tree_nodes.proofs.Beside.{part_found, part_missing}
 use Rattle.tree_nodes.proofs.literals.by_raw_at.Goals as goal
 
 pub returns-in-Some : goal.returns-in-Some

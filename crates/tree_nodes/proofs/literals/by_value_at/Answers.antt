@@ -1,7 +1,7 @@
 use Rattle.std.proofs.Common.{ap, ◌∙◌}
 use Rattle.tree_nodes.specs.Literals.{case_from}
 use Rattle.tree_nodes.specs.Tree.{atom, empty, done}
-use Rattle.tree_nodes.proofs.PartFound.{part_found, part_missing}
+use Rattle.tree_nodes.proofs.Beside.{part_found, part_missing}
 use Rattle.tree_nodes.proofs.literals.by_value_at.Goals as goal
 
 pub returns-in-Some : goal.returns-in-Some
