@@ -12,12 +12,12 @@ use Rattle.tree_nodes.specs.declared.kind.Kind.{Kind}
 use Rattle.tree_nodes.specs.declared.kind.Kind.TheVariants.{Literal}
 use Rattle.tree_nodes.specs.declared.table.Class.{Class as FieldClass}
 use Rattle.tree_nodes.specs.declared.table.Class.TheVariants.{LiteralValue}
-use Rattle.tree_core.proofs.Ascii.{text_of_ascii}
+use Rattle.tree_core.proofs.AsciiTexts.{text_of_ascii}
 use Rattle.tree_nodes.proofs.Cases.{bytes_turned}
-use Rattle.tree_core.proofs.Entries.{AreEntries, Entry, all_columns, all_members, all_parts, entries_distinct, entries_known, entries_read, entries_text, listed_apart, not_found}
-use Rattle.tree_core.proofs.Classes.{sort_of}
+use Rattle.tree_core.proofs.ObjectEntries.{AreEntries, Entry, all_columns, all_members, all_parts, entries_distinct, entries_known, entries_read, entries_text, listed_apart, not_found}
+use Rattle.tree_core.proofs.FieldClasses.{sort_of}
 use Rattle.tree_core.proofs.Fits.{FitFields, FitItems, Fits, FitsHead, TakesList, TakesNode}
-use Rattle.tree_core.proofs.Listed.{Listed, Tail, atom_listed, nothing, one_more, plain_ordered}
+use Rattle.tree_core.proofs.FieldsAsEntries.{Listed, Tail, atom_listed, nothing, one_more, plain_ordered}
 use Rattle.tree_core.proofs.RowFacts.{are_ordered, row_sound}
 use Rattle.tree_nodes.proofs.RowNames.{row_kind, row_named-name}
 

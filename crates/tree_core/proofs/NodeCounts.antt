@@ -17,10 +17,10 @@ use Rattle.tree_core.specs.Limits.{is_too_large, has_long_part, objects_in, obje
 use Rattle.tree_core.specs.NodeCount.{nodes_in, node_count}
 use Rattle.tree_core.specs.Reading.{absent, are_distinct, below, find_member, is_listed, is_null_value, is_paired, items_from, list_of, offset_of, one, only_known, or_hole, outer_key, part_from, part_in, regex_part, row_for, run_of, shape_from, shape_of, template_part, text_in, tree_of, units_in, value_part}
 use Rattle.tree_nodes.proofs.Cases.{both, bytes_equal, bytes_same, if_some, map_some, neither, none_some, not_true, some_same, then_some}
-use Rattle.tree_core.proofs.Found.{part_found, part_in-part_found}
+use Rattle.tree_core.proofs.FieldUnderKey.{part_found, part_in-part_found}
 use Rattle.tree_core.proofs.ReadFits.{row_of_object}
 use Rattle.tree_core.proofs.ReadsBack.{shape_read}
-use Rattle.tree_core.proofs.RowFacts.{of_each}
+use Rattle.tree_nodes.proofs.EachKind.{of_each}
 
 -- how many objects a value has, itself included
 abbrev mutual

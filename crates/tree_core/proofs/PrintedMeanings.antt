@@ -2,6 +2,7 @@
 -- that JSON can't hold.
 use Rattle.std.proofs.Common.{◌≡◌, ℕ, suc, List, [], ◌∷◌, ◌++◌, Bool, true, false, not, ◌&&◌, ◌||◌, Some, is_some, if◌then◌else◌, map, codes, refl, sym, ap, ◌∙◌, true≢false}
 use Rattle.std.specs.List.{list_all}
+use Rattle.std.proofs.Math.Bool.{and-false}
 use Rattle.json_text.specs.Json.{Json, member}
 use Rattle.json_text.specs.Units.{units_of}
 use Rattle.json_text.proofs.Units.{units_of-text_of_units}
@@ -16,15 +17,17 @@ use Rattle.tree_nodes.specs.Tree.{Atom, Parts, Tree, atom, child, done, empty, f
 use Rattle.tree_core.specs.Values.{atom_value, fields_paths, fields_value, fix_paths, is_marked, is_null_atom, items_paths, items_value, meaning_of, node_value, own_path, put_member, value_of}
 use Rattle.tree_core.specs.Values as values
 use Rattle.tree_nodes.specs.declared.kind.Kind.{Kind}
-use Rattle.tree_nodes.specs.declared.kind.Kind.TheVariants.{Literal, Program}
+use Rattle.tree_nodes.specs.declared.kind.Kind.TheVariants.{Literal}
 use Rattle.tree_nodes.specs.declared.table.Class.{Class as FieldClass}
 use Rattle.tree_nodes.specs.declared.table.Class.TheVariants.{Pattern, Raw}
 use Rattle.tree_nodes.specs.declared.table.Mark.{Mark}
 use Rattle.tree_nodes.specs.declared.table.Mode.{Mode}
-use Rattle.tree_core.proofs.Ascii.{is_ascii, text_of_ascii}
+use Rattle.tree_core.specs.Readable.{is_ascii}
+use Rattle.tree_core.proofs.AsciiTexts.{text_of_ascii}
 use Rattle.tree_nodes.proofs.Cases.{both, not_true}
+use Rattle.tree_nodes.proofs.EachKind.{of_each}
 use Rattle.tree_core.proofs.Fits.{FitFields, FitItems, Fits}
-use Rattle.tree_core.proofs.Printed.{put_always, rows_are_paired}
+use Rattle.tree_core.proofs.LeftToPrint.{put_always, rows_are_paired}
 use Rattle.tree_core.proofs.ReadsBack.{tree_fits}
 use Rattle.tree_core.proofs.RowFacts.{row_sound}
 
@@ -35,8 +38,7 @@ abbrev has_ascii_key : Column → Bool
 has_ascii_key c = is_ascii c.key
 
 ascii_keys : (k : Kind) → list_all has_ascii_key (row k).columns ≡ true
-ascii_keys Program = refl
-ascii_keys _ = refl
+ascii_keys = of_each (λ k. list_all has_ascii_key (row k).columns) refl refl
 
 own_units : (bytes : List ℕ) → is_ascii bytes ≡ true → units_of bytes ≡ bytes
 own_units bytes e = units_of-text_of_units bytes bytes (text_of_ascii bytes e)
@@ -147,8 +149,7 @@ are_steady [] = true
 are_steady (c ∷ cs) = is_steady c cs && are_steady cs
 
 rows_are_steady : (k : Kind) → are_steady (row k).columns ≡ true
-rows_are_steady Program = refl
-rows_are_steady _ = refl
+rows_are_steady = of_each (λ k. are_steady (row k).columns) refl refl
 
 -- of a node whose `value` is marked: only the first field may hold a `value`
 abbrev later_mark_nothing : Bool → List Column → Bool
@@ -156,10 +157,8 @@ later_mark_nothing marked [] = true
 later_mark_nothing marked (c ∷ cs) = list_all (marks_nothing marked) cs
 
 rows_mark_first : (marked : Bool) (k : Kind) → later_mark_nothing marked (row k).columns ≡ true
-rows_mark_first true Program = refl
-rows_mark_first false Program = refl
-rows_mark_first true _ = refl
-rows_mark_first false _ = refl
+rows_mark_first true = of_each (λ k. later_mark_nothing true (row k).columns) refl refl
+rows_mark_first false = of_each (λ k. later_mark_nothing false (row k).columns) refl refl
 
 -- the mark of a first field that is a `value`
 abbrev own_marks : Bool → Parts → List Column → List (List Part)
@@ -170,10 +169,6 @@ atom_unmarked : (marked : Bool) (class : FieldClass) (a : Atom) → (marked && i
     → (atom_meaning marked class a).marks ≡ []
 atom_unmarked marked class empty h = ap (λ b. (null_meaning b).marks) h
 atom_unmarked marked class a h = refl
-
-and_false : (b : Bool) → (b && false) ≡ false
-and_false true = refl
-and_false false = refl
 
 abbrev FirstIsUnmarked : List Field → Type 0
 FirstIsUnmarked [] = Unit {0}
@@ -208,7 +203,7 @@ module _ (marked : Bool) (k : List ℕ) (mode : Mode) (inner : Bool) (mark : Mar
       shown e =
           let o = (both omit (is_null_atom a) e).0 in
           let v : is_value_class class ≡ false = sym (ap (λ b. b && is_value_class class) o) ∙ not_true _ h in
-          ap (λ b. marked && b) v ∙ and_false marked
+          ap (λ b. marked && b) v ∙ and-false marked
 
       by_test : (b : Bool) → (omit && is_null_atom a) ≡ b
           → field_marks (if b then rest else field k (atom_meaning marked class a) ∷ rest) ≡ own class a ++ field_marks rest
@@ -218,15 +213,15 @@ module _ (marked : Bool) (k : List ℕ) (mode : Mode) (inner : Bool) (mark : Mar
   put_marks : (class : FieldClass) (a : Atom) (rest : List Field) → not (omit && is_value_class class) ≡ true
       → (is_some (object_key class) ≡ true → FirstIsUnmarked rest)
       → field_marks (put_field marked (marked_column class) a rest) ≡ own class a ++ field_marks rest
-  put_marks Pattern a rest h first = by_test (is_null_atom a) ∙ sym (no_own Pattern a rest (and_false marked))
+  put_marks Pattern a rest h first = by_test (is_null_atom a) ∙ sym (no_own Pattern a rest (and-false marked))
     where
       by_test : (b : Bool) → field_marks (if b then without_next rest else held_field (codes "regex") (field k (atom_meaning marked Pattern a)) rest)
           ≡ field_marks rest
       by_test true = next_marks rest (first refl)
-      by_test false = held_marks (codes "regex") (field k (atom_meaning marked Pattern a)) rest (atom_unmarked marked Pattern a (and_false marked)) (first refl)
+      by_test false = held_marks (codes "regex") (field k (atom_meaning marked Pattern a)) rest (atom_unmarked marked Pattern a (and-false marked)) (first refl)
   put_marks Raw a rest h first =
-      held_marks (codes "value") (field k (atom_meaning marked Raw a)) rest (atom_unmarked marked Raw a (and_false marked)) (first refl)
-      ∙ sym (no_own Raw a rest (and_false marked))
+      held_marks (codes "value") (field k (atom_meaning marked Raw a)) rest (atom_unmarked marked Raw a (and-false marked)) (first refl)
+      ∙ sym (no_own Raw a rest (and-false marked))
   put_marks class a rest h first = plain_marks class a rest h
 
 -- what the lemmas ask of columns

@@ -14,11 +14,12 @@ use Rattle.tree_nodes.specs.declared.kind.Kind.{Kind}
 use Rattle.tree_nodes.specs.declared.table.Class.{Class as FieldClass}
 use Rattle.tree_nodes.specs.declared.table.Class.TheVariants.{Cooked, Flag, Flags, Holes, LiteralValue, Many, ManyOr, Maybe, Name, One, Pattern, Raw, Text as TextClass, TextOr, Word}
 use Rattle.tree_nodes.specs.declared.table.Words.{Words}
-use Rattle.tree_core.proofs.Ascii.{is_ascii, text_of_ascii}
+use Rattle.tree_core.specs.Readable.{is_ascii}
+use Rattle.tree_core.proofs.AsciiTexts.{text_of_ascii}
 use Rattle.tree_nodes.proofs.Cases.{both, if_some, map_some, none_some, some_same, then_some, bytes_equal}
-use Rattle.tree_core.proofs.Found.{part_found, part_in-part_found}
+use Rattle.tree_core.proofs.FieldUnderKey.{part_found, part_in-part_found}
 use Rattle.tree_nodes.specs.Kinds.{all_kinds}
-use Rattle.tree_core.proofs.Classes.{is_empty-atom, is_flags-Flags, key_of_class}
+use Rattle.tree_core.proofs.FieldClasses.{is_empty-atom, is_flags-Flags, key_of_class}
 use Rattle.tree_core.proofs.Fits.{FitFields, FitItems, Fits, FitsAtom, FitsNext, FitsPart, TakesList, TakesNode}
 use Rattle.tree_core.proofs.RowFacts.{are_followed, ascii_words, is_followed, row_sound}
 use Rattle.tree_nodes.proofs.RowNames.{row_kind}

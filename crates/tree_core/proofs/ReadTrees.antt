@@ -8,7 +8,8 @@ use Rattle.tree_core.specs.Reading.{shape_of, tree_of}
 use Rattle.tree_nodes.specs.Standing.{is_placed}
 use Rattle.tree_nodes.specs.Tree.{Tree}
 
-abbrev if_placed : Tree → Option Tree
+-- the tree of a shape
+abbrev pub if_placed : Tree → Option Tree
 if_placed t = if is_placed t then Some t else None
 
 pub tree_of-placed : (v : Json) (t : Tree) → shape_of v ≡ Some t → is_placed t ≡ true → tree_of v ≡ Some t

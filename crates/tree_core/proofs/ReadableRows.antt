@@ -1,6 +1,7 @@
 -- Each row has columns that the reader takes.
-use Rattle.std.proofs.Common.{◌≡◌, ℕ, List, [], ◌∷◌, Bool, true, false, true≢false, ◌&&◌, Bor, Option, None, Some, IfSome, bytes_eq, map, option_map, IsTrue, if◌then◌else◌, refl, sym, ap, ◌∙◌}
+use Rattle.std.proofs.Common.{◌≡◌, ℕ, List, [], ◌∷◌, Bool, true, false, Bor, Option, None, Some, IfSome, bytes_eq, map, option_map, IsTrue, if◌then◌else◌, refl, sym, ap, ◌∙◌}
 use Rattle.std.specs.List.{list_all}
+use Rattle.std.proofs.lemmas.Bool.{and_parts}
 use Rattle.tree_nodes.specs.declared.kind.Kind.{Kind}
 use Rattle.tree_nodes.specs.Kinds.{all_kinds}
 use Rattle.tree_core.specs.Readable.{are_readable}
@@ -14,10 +15,6 @@ reads_row k = are_readable (row k).columns
 all_rows : list_all reads_row all_kinds ≡ true
 all_rows = refl
 
-both : (a b : Bool) → (a && b) ≡ true → (a ≡ true) × (b ≡ true)
-both true b e = (refl, e)
-both false b e = absurd (true≢false (sym e))
-
 found_at : (b : Bool) (k : Kind) (rest : Option Row) (r : Row) → (if b then Some (row k) else rest) ≡ Some r → reads_row k ≡ true
     → (rest ≡ Some r → IsTrue (are_readable r.columns)) → IsTrue (are_readable r.columns)
 found_at true k rest r e readable later =
@@ -28,7 +25,7 @@ found_at false k rest r e readable later = later e
 readable_among : (ks : List Kind) (name : List ℕ) (r : Row) → row_among ks name ≡ Some r → list_all reads_row ks ≡ true → IsTrue (are_readable r.columns)
 readable_among [] name r e all = absurd (cc)
 readable_among (k ∷ ks) name r e all =
-    let parts = both (reads_row k) (list_all reads_row ks) all in
+    let parts = and_parts (reads_row k) (list_all reads_row ks) all in
     found_at (bytes_eq (row k).name name) k (row_among ks name) r e parts.0 (λ later. readable_among ks name r later parts.1)
 
 row_readable : (name : List ℕ) (r : Row) → row_named name ≡ Some r → IsTrue (are_readable r.columns)

@@ -1,5 +1,5 @@
 -- Reading undoes printing, and the text of what is printed reads as it.
-use Rattle.std.proofs.Common.{◌≡◌, true, Option, Some, None, option_and_then, if◌then◌else◌, ap, ◌∙◌, subst}
+use Rattle.std.proofs.Common.{◌≡◌, true, Some, ap, ◌∙◌, subst}
 use Rattle.json_text.specs.Json.{Json}
 use Rattle.json_text.specs.HasText.{HasText}
 use Rattle.json_text.proofs.Texts.{text_reads_alone}
@@ -12,9 +12,7 @@ use Rattle.tree_nodes.proofs.Cases.{if_some, some_same, then_some}
 use Rattle.tree_core.proofs.Fits.{Fits}
 use Rattle.tree_core.proofs.FitsBack.{tree_back}
 use Rattle.tree_core.proofs.ReadFits.{shape_fits}
-
-abbrev if_placed : Tree → Option Tree
-if_placed t = if is_placed t then Some t else None
+use Rattle.tree_core.proofs.ReadTrees.{if_placed, tree_of-placed}
 
 -- the shape that was read, which is the tree, and it stands where it may
 pub shape_read : (v : Json) (t : Tree) → tree_of v ≡ Some t → (shape_of v ≡ Some t) × (is_placed t ≡ true)
@@ -25,15 +23,11 @@ shape_read v t e =
     let same = some_same a.0 t b.1 in
     (a.1 ∙ ap Some same, subst (λ x. is_placed x ≡ true) same b.0)
 
-tree_read : (v : Json) (t : Tree) → shape_of v ≡ Some t → is_placed t ≡ true → tree_of v ≡ Some t
-unfolding tree_of
-tree_read v t e p = ap (option_and_then if_placed) e ∙ ap (λ b. if b then Some t else None) p
-
 pub tree_fits : (v : Json) (t : Tree) → tree_of v ≡ Some t → Fits t
 tree_fits v t e = shape_fits v t (shape_read v t e).0
 
 pub reading_undoes_printing : (v : Json) (t : Tree) → tree_of v ≡ Some t → tree_of (value_of t) ≡ Some t
-reading_undoes_printing v t e = tree_read (value_of t) t (tree_back t (tree_fits v t e)).0 (shape_read v t e).1
+reading_undoes_printing v t e = tree_of-placed (value_of t) t (tree_back t (tree_fits v t e)).0 (shape_read v t e).1
 
 pub tree_has_text : (v : Json) (t : Tree) → tree_of v ≡ Some t → HasText (value_of t)
 tree_has_text v t e = (tree_back t (tree_fits v t e)).1

@@ -1,15 +1,15 @@
 -- What the proofs take from the node table: a few facts, each by computing over its rows.
-use Rattle.std.specs.Prelude.{ℕ, zero, suc, List, [], ◌∷◌, get_or, Bool, true, false, not, ◌&&◌, ◌||◌, bytes_eq, codes, if◌then◌else◌}
+use Rattle.std.specs.Prelude.{ℕ, List, [], ◌∷◌, Bool, true, false, not, ◌&&◌, ◌||◌, bytes_eq, codes, if◌then◌else◌}
 use Rattle.std.specs.List.{list_all}
-use Rattle.std.proofs.Common.{◌≡◌, refl, subst}
+use Rattle.std.proofs.Common.{◌≡◌, refl}
 use Rattle.json_text.specs.Units.{are_code_units}
 use Rattle.tree_core.specs.Reading.{is_listed}
-use Rattle.tree_nodes.specs.Kinds.{all_kinds, kind_number, kind_at-kind_number}
+use Rattle.tree_nodes.specs.Kinds.{all_kinds}
 use Rattle.tree_nodes.specs.Table.{Column, Row, row, word_list}
-use Rattle.tree_core.proofs.Ascii.{is_ascii}
+use Rattle.tree_core.specs.Readable.{is_ascii}
 use Rattle.tree_nodes.proofs.Cases.{both, not_true}
+use Rattle.tree_nodes.proofs.EachKind.{of_each}
 use Rattle.tree_nodes.specs.declared.kind.Kind.{Kind}
-use Rattle.tree_nodes.specs.declared.kind.Kind.TheVariants.{Program}
 use Rattle.tree_nodes.specs.declared.table.Class.{Class as FieldClass}
 use Rattle.tree_nodes.specs.declared.table.Class.TheVariants.{Cooked, Flags, Pattern, Raw, TextOr}
 use Rattle.tree_nodes.specs.declared.table.Words.{Words}
@@ -74,15 +74,6 @@ abbrev pub is_sound_row : Row → Bool
 is_sound_row r =
     is_ascii r.name && (not (is_listed (codes "type") r.columns) && (not (is_listed (codes "start") r.columns)
     && (not (is_listed (codes "end") r.columns) && (are_followed r.columns && are_ordered r.columns))))
-
--- a fact of all rows, found by computing, is one of the row of each kind
-all_at : (test : Kind → Bool) (ks : List Kind) (k : Kind) (i : ℕ) → list_all test ks ≡ true → test k ≡ true → test (get_or ks i k) ≡ true
-all_at test [] k i all own = own
-all_at test (l ∷ ks) k zero all own = (both (test l) (list_all test ks) all).0
-all_at test (l ∷ ks) k (suc i) all own = all_at test ks k i (both (test l) (list_all test ks) all).1 own
-
-pub of_each : (test : Kind → Bool) → list_all test all_kinds ≡ true → test Program ≡ true → (k : Kind) → test k ≡ true
-of_each test all own k = subst (λ l. test l ≡ true) (kind_at-kind_number k) (all_at test all_kinds Program (kind_number k) all own)
 
 abbrev is_sound : Kind → Bool
 is_sound k = is_sound_row (row k)

@@ -17,6 +17,3 @@ pub use tree_nodes::{
     Opens, Role, Row, Strict, TreeText, Words, row, row_named, word_list,
 };
 pub use tree_patterns::{NodeRefs, bound_names};
-
-#[cfg(test)]
-mod tests;

@@ -1,6 +1,6 @@
 //! The printer: a tree as ESTree in JSON.
 
-ghost use Rattle.std.specs.Prelude.{◌≡◌, OnErr, OnOk, false, map, option_copied, option_map, slice_get, true};
+ghost use Rattle.std.specs.Prelude.{◌≡◌, OnErr, OnOk, false, map, option_map, true};
 ghost use Rattle.oxc_estree.specs.Open.{add_element, add_field, add_fields, closed, list_of, new_struct};
 ghost use Rattle.oxc_estree.specs.Out.{flags, wrote};
 ghost use Rattle.oxc_estree.specs.Refused.{IsCutShort};
@@ -15,7 +15,9 @@ use crate::program::Program;
 use oxc_estree::{ESTree, JsonStr, Serializer};
 use std::alloc::AllocError;
 use tree_nodes::literals::is_fixed;
-use tree_nodes::{Class, Column, Field, FieldList, Kind, Node, NodeList, row, word_list};
+use tree_nodes::{
+    Class, Column, Field, FieldList, Kind, Node, NodeList, get_column, row, word_list,
+};
 
 // The word with this number in a field of the class.
 fn word_text(class: Class, number: u8) -> &'static str
@@ -70,13 +72,6 @@ fn is_left_out(class: Class, field: &Field) -> bool
     ensures { result ≡ spec.is_left_out class (part_of field.now) }
 {
     matches!(class, Class::Pattern) && is_empty(field)
-}
-
-// `columns.get(i)`, with its answer as one equation.
-fn at(columns: &[Column], i: usize) -> Option<&Column>
-    ensures { option_copied result ≡ slice_get columns.now i }
-{
-    columns.get(i)
 }
 
 // Writes a field of a struct that stands open.
@@ -180,7 +175,7 @@ fn write_fields<S: Serializer>(
                 field,
                 column,
                 fields.get(i + 1),
-                at(columns, i + 1),
+                get_column(columns, i + 1),
                 marked,
                 serializer,
             )?;
@@ -374,6 +369,3 @@ fn write_item<S: Serializer>(item: &Option<Node>, serializer: &mut S) -> Result<
         None => ().serialize(serializer),
     }
 }
-
-#[cfg(test)]
-mod tests;

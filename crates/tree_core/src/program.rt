@@ -6,22 +6,24 @@ use std::marker::Model;
 use tree_nodes::Node;
 use tree_nodes::roles::word_at;
 
-/// What a program's source is: a script, a module, or a CommonJS module, whose code lies in a
-/// function.
+/// What a program's source is.
 #[derive(Clone, Copy, Debug, PartialEq, Eq)]
 pub enum SourceType {
     Script,
     Module,
+    /// A script whose code lies in a function.
     CommonJs,
 }
 
 impl SourceType {
+    /// Whether it is a module.
     pub fn is_module(self) -> bool
         ensures { IsTrue result ↔ (self ≡ SourceType.Module) }
     {
         matches!(self, SourceType::Module)
     }
 
+    /// Whether it is a CommonJS module.
     pub fn is_commonjs(self) -> bool
         ensures { IsTrue result ↔ (self ≡ SourceType.CommonJs) }
     {
@@ -51,6 +53,8 @@ impl Model for Program {
 }
 
 impl Program {
+    ghost use Rattle.std.specs.Prelude.{◌<◌, ◌^◌};
+    ghost use Rattle.tree_core.specs.NodeCount.{node_count};
     ghost use Rattle.tree_core.specs.Program.{IsProgram, source_type_of};
 
     /// The program of this root.
@@ -61,10 +65,11 @@ impl Program {
         Program { root }
     }
 
-    /// The node of kind `Program`, in which all others lie.
+    /// The node of kind `Program`, in which all others lie, fewer than 2^30 with it.
     pub fn root(&self) -> &Node
         ensures root { result.now ≡ self.now }
         ensures program { IsProgram self.now }
+        ensures few { node_count self.now < 2 ^ 30 }
     {
         &self.root
     }

@@ -1,25 +1,12 @@
 -- Taking apart tests, options and comparisons of texts.
-use Rattle.std.proofs.Common.{◌≡◌, ℕ, List, Bool, true, false, not, ◌&&◌, ◌||◌, Option, Some, None, option_map, option_and_then, if◌then◌else◌, refl, sym, ◌∙◌, true≢false, bytes_eq}
+use Rattle.std.proofs.Common.{◌≡◌, ℕ, List, Bool, true, false, ◌||◌, Option, Some, None, option_map, option_and_then, if◌then◌else◌, refl, sym, ◌∙◌, true≢false, bytes_eq}
 use Rattle.std.proofs.lemmas.Slice.Eq.{bytes_eq-Decides}
-
-pub both : (a b : Bool) → (a && b) ≡ true → (a ≡ true) × (b ≡ true)
-both true b e = (refl, e)
-both false b e = absurd (true≢false (sym e))
-
-pub not_true : (a : Bool) → not a ≡ true → a ≡ false
-not_true true e = absurd (true≢false (sym e))
-not_true false e = refl
-
-pub neither : (a b : Bool) → (a || b) ≡ false → (a ≡ false) × (b ≡ false)
-neither true b e = absurd (true≢false e)
-neither false b e = (refl, e)
+pub use Rattle.std.proofs.lemmas.Bool.{and_parts as both, not-true as not_true, or_parts as neither}
+pub use Rattle.std.proofs.lemmas.Option.{same_Some as some_same}
 
 pub or_true : (a : Bool) → (a || true) ≡ true
 or_true true = refl
 or_true false = refl
-
-pub some_same : {A : Type 0} (a b : A) → Some a ≡ Some b → a ≡ b
-some_same a b e = cc
 
 pub none_some : {A C : Type 0} (a : A) → None ≡ Some a → C
 none_some a e = absurd (cc)

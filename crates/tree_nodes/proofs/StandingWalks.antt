@@ -1,25 +1,20 @@
 -- The walk along the columns, at one step of its loops.
-use Rattle.std.proofs.Common.{map, slice_get, ◌≡◌, ℕ, zero, suc, ◌+◌, Bool, true, false, ◌&&◌, List, [], ◌∷◌, drop, Option, Some, None, refl, sym, ap, ap₂, ◌∙◌, arith}
+use Rattle.std.proofs.Common.{◌≡◌, ℕ, zero, suc, ◌+◌, Bool, true, false, ◌&&◌, List, drop, Option, Some, refl, sym, ap, ap₂, ◌∙◌, arith}
+use Rattle.std.proofs.Math.Bool.{and-true, and_assoc}
 use Rattle.tree_nodes.specs.declared.table.Class.{Class as FieldClass}
 use Rattle.tree_nodes.specs.declared.table.Role.{Role}
-use Rattle.tree_nodes.specs.declared.table.Column.{Column as RustColumn}
 use Rattle.tree_nodes.specs.Tree.{Tree, Parts, done, atom, child, many, alone}
 use Rattle.tree_nodes.specs.Look.{past, onto, part_at, item_at, are_items}
 use Rattle.tree_nodes.specs.Views.{item_of}
-use Rattle.tree_nodes.specs.Table.{Column, row, unlisted}
+use Rattle.tree_nodes.specs.Table.{Column, row}
 use Rattle.tree_nodes.specs.Along.{Along, each, all, first_column, other_columns}
 use Rattle.tree_nodes.specs.Roles.{role_at}
-use Rattle.tree_nodes.specs.Rows.{column_of}
 use Rattle.tree_nodes.specs.Standing.{group_admits, is_sound, stands, stands_in}
+use Rattle.tree_nodes.proofs.ColumnsAlong.{given, other_drop}
 use Rattle.tree_nodes.proofs.Lists.{past_item}
 
-and_parts : (a b c d : Bool) → b ≡ (c && d) → (a && b) ≡ ((a && c) && d)
-and_parts true b c d e = e
-and_parts false b c d e = refl
-
-and_true : (a : Bool) → a ≡ (a && true)
-and_true true = refl
-and_true false = refl
+and_grouped : (a b c d : Bool) → b ≡ (c && d) → (a && b) ≡ ((a && c) && d)
+and_grouped a b c d e = ap (λ x. a && x) e ∙ sym (and_assoc a c d)
 
 and_same : (a b c : Bool) → b ≡ c → (a && b) ≡ (a && c)
 and_same a b c e = ap (λ x. a && x) e
@@ -40,11 +35,8 @@ with_onto : (class : FieldClass) (r : Role) (within a b : Parts) → stands_in c
 unfolding stands first_column other_columns
 with_onto class r within done b = refl
 with_onto class r within (atom x a) b = with_onto class r within a b
-with_onto class r within (many items a) b = and_parts _ _ (stands_in class r within a) (stands_in class r within b) (with_onto class r within a b)
-with_onto class r within (child k s e fields a) b = and_parts _ _ (stands_in class r within a) (stands_in class r within b) (with_onto class r within a b)
-
-abbrev given : Along → Role → Parts → Role
-given cs own within = role_at (first_column cs).mode own within
+with_onto class r within (many items a) b = and_grouped _ _ _ (stands_in class r within b) (with_onto class r within a b)
+with_onto class r within (child k s e fields a) b = and_grouped _ _ _ (stands_in class r within b) (with_onto class r within a b)
 
 -- the i-th part, with the first of the columns that are left
 at_part : (ps : Parts) (i : ℕ) (p : Parts) (cs : Along) (own : Role) (within : Parts) → part_at ps i ≡ Some p
@@ -53,19 +45,12 @@ unfolding stands first_column other_columns role_at
 at_part done i p cs own within e = absurd (cc)
 at_part (atom a rest) zero p cs own within e = let same : atom a done ≡ p = cc in rw (← same) refl
 at_part (atom a rest) (suc i) p cs own within e = at_part rest i p cs own within e
-at_part (child k s t fields rest) zero p cs own within e = let same : child k s t fields done ≡ p = cc in rw (← same) (ap (λ x. x && stands rest (other_columns cs) own within) (and_true _))
+at_part (child k s t fields rest) zero p cs own within e = let same : child k s t fields done ≡ p = cc in rw (← same) (ap (λ x. x && stands rest (other_columns cs) own within) (sym (and-true _)))
 at_part (child k s t fields rest) (suc i) p cs own within e = at_part rest i p cs own within e
 at_part (many items rest) zero p cs own within e =
     let same : many items done ≡ p = cc in
-    rw (← same) (ap (λ x. x && stands rest (other_columns cs) own within) (by_role items (first_column cs) own within ∙ and_true _))
+    rw (← same) (ap (λ x. x && stands rest (other_columns cs) own within) (by_role items (first_column cs) own within ∙ sym (and-true _)))
 at_part (many items rest) (suc i) p cs own within e = at_part rest i p cs own within e
-
-other_drop : (cs : List Column) (i : ℕ) → other_columns (each (drop i cs)) ≡ each (drop (suc i) cs)
-unfolding other_columns
-other_drop [] zero = refl
-other_drop [] (suc i) = refl
-other_drop (c ∷ cs) zero = refl
-other_drop (c ∷ cs) (suc i) = other_drop cs i
 
 module _ (fields : Parts) (cs : List Column) (own : Role) (i : ℕ) (so_far : stands fields (each cs) own fields ≡ stands (past i fields) (each (drop i cs)) own fields) where
   abbrev here : Parts → Bool
@@ -103,28 +88,15 @@ module _ (class : FieldClass) (r : Role) (within ps : Parts) (i : ℕ) (so_far :
 
 pub list_is : (class : FieldClass) (r : Role) (within items : Parts) → stands_in class r within (many items done) ≡ stands_in class r within items
 unfolding stands first_column other_columns
-list_is class r within items = sym (and_true (stands_in class r within items))
+list_is class r within items = and-true (stands_in class r within items)
 
 node_is : (class : FieldClass) (r : Role) (within : Parts) (t : Tree) →
     stands_in class r within (alone t) ≡ (group_admits class r within t.kind t.fields && is_sound t.kind t.fields && stands t.fields (each (row t.kind).columns) r t.fields)
 unfolding stands first_column other_columns role_at
-node_is class r within t = sym (and_true _)
+node_is class r within t = and-true _
 
 pub unfit_node : (class : FieldClass) (r : Role) (within : Parts) (t : Tree) → (group_admits class r within t.kind t.fields && is_sound t.kind t.fields) ≡ false → false ≡ stands_in class r within (alone t)
 unfit_node class r within t e = sym (node_is class r within t ∙ ap (λ b. b && stands t.fields (each (row t.kind).columns) r t.fields) e)
 
 pub fit_node : (class : FieldClass) (r : Role) (within : Parts) (t : Tree) → (group_admits class r within t.kind t.fields && is_sound t.kind t.fields) ≡ true → stands t.fields (each (row t.kind).columns) r t.fields ≡ stands_in class r within (alone t)
 fit_node class r within t e = sym (node_is class r within t ∙ ap (λ b. b && stands t.fields (each (row t.kind).columns) r t.fields) e)
-
-pub found_column : (cs : List RustColumn) (i : ℕ) (c : RustColumn) → Some c ≡ slice_get cs i → column_of c ≡ first_column (each (drop i (map column_of cs)))
-unfolding first_column
-found_column [] i c e = absurd (cc)
-found_column (d ∷ cs) zero c e = let same : c ≡ d = cc in ap column_of same
-found_column (d ∷ cs) (suc i) c e = found_column cs i c e
-
-pub no_column : (cs : List RustColumn) (i : ℕ) → None ≡ slice_get cs i → unlisted ≡ first_column (each (drop i (map column_of cs)))
-unfolding first_column
-no_column [] zero e = refl
-no_column [] (suc i) e = refl
-no_column (d ∷ cs) zero e = absurd (cc)
-no_column (d ∷ cs) (suc i) e = no_column cs i e

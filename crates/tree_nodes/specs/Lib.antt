@@ -10,3 +10,4 @@ pub mod Along
 pub mod Literals
 pub mod Roles
 pub mod Standing
+pub mod NodeCount

@@ -16,9 +16,7 @@ pub use node::{Field, FieldList, Node, NodeList};
 pub use rows::{row, row_named};
 pub use standing::{is_placed, own_name_at};
 pub use table::{
-    Class, Column, Declared, Group, Mark, Mode, Opens, Role, Row, Strict, Words, word_list,
+    Class, Column, Declared, Group, Mark, Mode, Opens, Role, Row, Strict, Words, get_column,
+    word_list,
 };
 pub use text::TreeText;
-
-#[cfg(test)]
-mod tests;

@@ -11,6 +11,7 @@ use crate::roles::empty_at;
 /// What a Literal is.
 #[derive(Clone, Copy)]
 pub enum LiteralCase {
+    /// A string.
     Text,
     Boolean,
     /// A whole number below 2^64.
@@ -24,7 +25,7 @@ pub enum LiteralCase {
     NoCase,
 }
 
-fn text_in(field: &Field) -> bool
+fn holds_text(field: &Field) -> bool
     ensures { result ≡ spec.holds_text (part_of field.now) }
 {
     match field {
@@ -37,7 +38,7 @@ fn text_at(fields: &FieldList, i: u8) -> bool
     ensures { result ≡ spec.holds_text (part fields.now i) }
 {
     match fields.get(i as usize) {
-        Some(field) => text_in(field),
+        Some(field) => holds_text(field),
         None => false,
     }
 }

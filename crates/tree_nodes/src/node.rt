@@ -8,35 +8,47 @@ use oxc_str::JSText;
 use std::alloc::{AllocError, Global};
 use std::marker::Model;
 
+/// A node of the tree. Contracts see it as a `Tree`, with its fields as a run of parts.
 #[cycle(node)]
 #[derive(Drop)]
 pub struct Node {
     pub kind: Kind,
+    /// Where its text begins in the source: 0 where the ESTree says nothing.
     pub start: u32,
+    /// Where its text ends.
     pub end: u32,
+    /// Its fields, in the order of its row's columns.
     pub fields: FieldList,
 }
 
+/// The fields of a node.
 #[cycle(node)]
 #[derive(Drop)]
 pub struct FieldList {
     items: Vec<Field>,
 }
 
+/// What a field of a node holds.
 #[cycle(node)]
 #[derive(Drop)]
 pub enum Field {
+    /// Null, or nothing where the field may be missing.
     Empty,
     Flag(bool),
+    /// One of the words that the field may be, as `kind` and `operator` are: its number in the
+    /// word list of the column.
     Word(u8),
+    /// A text of Unicode characters, as a name.
     Text(TreeText),
-    /// Code units, of which a surrogate may stand alone.
+    /// The value of a string: code units, of which a surrogate may stand alone.
     Str(JSText),
+    /// The value of a number that is whole and below 2^64.
     Whole(u64),
     Child(Box<Node>),
     List(NodeList),
 }
 
+/// A list of nodes, in which None is a hole, as in `[a, , b]`.
 #[cycle(node)]
 #[derive(Drop)]
 pub struct NodeList {
@@ -114,6 +126,7 @@ impl FieldList {
     ghost use Rattle.tree_nodes.specs.Look.{part_size, parts_size, parts_len, part_at};
     ghost use Rattle.tree_nodes.specs.Views.{part_of, parts_of};
 
+    /// A list of these fields.
     pub fn from_vec(fields: Vec<Field>) -> FieldList
         ensures { result ≡ parts_of fields.items }
     {
@@ -127,12 +140,14 @@ impl FieldList {
         self.items
     }
 
+    /// How many fields there are.
     pub fn len(&self) -> usize
         ensures { result ≡ parts_len self.now }
     {
         self.items.as_slice().len()
     }
 
+    /// The i-th field. None past the end.
     pub fn get(&self, i: usize) -> Option<&Field>
         ensures part { option_map (λ f. part_of f.now) result ≡ part_at self.now i }
         ensures smaller { IfSome result (λ f. part_size (part_of f.now) < parts_size self.now) }
@@ -146,6 +161,7 @@ impl NodeList {
     ghost use Rattle.tree_nodes.specs.Views.{items_of};
     ghost use Rattle.std.specs.Prelude.{true};
 
+    /// A list of these nodes and holes.
     pub fn from_vec(items: Vec<Option<Node>>) -> NodeList
         ensures { result ≡ items_of items.items }
     {
@@ -159,6 +175,7 @@ impl NodeList {
         self.items
     }
 
+    /// How many nodes and holes there are.
     pub fn len(&self) -> usize
         ensures len { result ≡ parts_len self.now }
         ensures shaped { are_items self.now ≡ true }
@@ -166,6 +183,7 @@ impl NodeList {
         self.items.as_slice().len()
     }
 
+    /// The i-th node or hole. None past the end.
     pub fn get(&self, i: usize) -> Option<&Option<Node>>
         ensures item { option_copied result ≡ item_at self.now i }
         ensures smaller { IfSome result (λ t. item_size t.now < parts_size self.now) }
@@ -175,6 +193,7 @@ impl NodeList {
 }
 
 impl Node {
+    /// A copy of the node and of all below it. Err is want of memory.
     #[cycle(copy)]
     pub fn try_clone(&self, alloc: Global) -> Result<Node, AllocError>
         ensures { IfOk result (λ n. n ≡ self.now) }
@@ -221,6 +240,7 @@ impl NodeList {
 impl Field {
     ghost use Rattle.tree_nodes.specs.Views.{part_of};
 
+    /// A copy of the field and of all below it. Err is want of memory.
     #[cycle(copy)]
     pub fn try_clone(&self, alloc: Global) -> Result<Field, AllocError>
         ensures { IfOk result (λ f. part_of f ≡ part_of self.now) }

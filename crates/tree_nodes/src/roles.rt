@@ -1,8 +1,8 @@
-//! The role that a field gives to an Identifier in it.
+//! What a field says by its number, and the role that it gives to an Identifier in it.
 
 ghost use Rattle.std.specs.Prelude.{◌≡◌};
 ghost use Rattle.tree_nodes.specs.Roles as spec;
-ghost use Rattle.tree_nodes.specs.Tree.{part, flag_of, word_of, is_empty};
+ghost use Rattle.tree_nodes.specs.Tree.{part, flag_of, word_of, text_of, is_empty};
 ghost use Rattle.tree_nodes.specs.Views.{part_of};
 
 use crate::node::{Field, FieldList};
@@ -62,6 +62,25 @@ pub fn empty_at(fields: &FieldList, i: u8) -> bool
     match fields.get(i as usize) {
         Some(field) => empty_in(field),
         None => false,
+    }
+}
+
+fn text_in(field: &Field) -> &str
+    ensures { result.now ≡ text_of (part_of field.now) }
+{
+    match field {
+        Field::Text(text) => text.as_str(),
+        _ => "",
+    }
+}
+
+/// The text that the first field is, as an Identifier's name. Empty where it is none.
+pub fn first_text(fields: &FieldList) -> &str
+    ensures { result.now ≡ text_of fields.now }
+{
+    match fields.get(0) {
+        Some(field) => text_in(field),
+        None => "",
     }
 }
 

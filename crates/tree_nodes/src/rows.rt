@@ -8,7 +8,7 @@ ghost use Rattle.tree_nodes.specs.Rows.{row_of};
 use crate::kind::{KINDS, Kind};
 use crate::table::{Class, Column, Declared, Group, Mark, Mode, Opens, Role, Row, Strict, Words};
 
-/// A field that holds nodes: an Identifier in it is read.
+// A field that holds nodes: an Identifier in it is read.
 const NODE: Column = Column {
     key: "",
     class: Class::Flag,
@@ -18,7 +18,7 @@ const NODE: Column = Column {
     omit: false,
 };
 
-/// A field that holds no node.
+// A field that holds no node.
 const DATUM: Column = Column {
     key: "",
     class: Class::Flag,

@@ -1,20 +1,20 @@
 //! Where each node may stand: what a field takes, by its group, by the fields beside it, and by
 //! the role that it gives.
 
-ghost use Rattle.std.specs.Prelude.{◌≡◌, ◌&&◌, map, drop, option_copied, slice_get};
+ghost use Rattle.std.specs.Prelude.{◌≡◌, ◌&&◌, map, drop};
 ghost use Rattle.tree_nodes.specs.Along.{each, first_column};
 ghost use Rattle.tree_nodes.specs.Kinds.{is_in};
 ghost use Rattle.tree_nodes.specs.Rows.{column_of};
 ghost use Rattle.tree_nodes.specs.Standing as spec;
-ghost use Rattle.tree_nodes.specs.Tree.{alone, part, text_of};
+ghost use Rattle.tree_nodes.specs.Tree.{alone, part};
 ghost use Rattle.tree_nodes.specs.Views.{part_of, item_of};
 
 use crate::kind::Kind;
 use crate::literals::{has_case, is_key, is_text};
 use crate::node::{Field, FieldList, Node, NodeList};
-use crate::roles::{empty_at, flag_at, role_at, word_at};
+use crate::roles::{empty_at, first_text, flag_at, role_at, word_at};
 use crate::rows::row;
-use crate::table::{Class, Column, Group, Mark, Mode, Role};
+use crate::table::{Class, Column, Group, Mark, Mode, Role, get_column};
 use std::alloc::Global;
 
 const BODIES: [Kind; 19] = [
@@ -178,8 +178,8 @@ const WORD_IN: u8 = 20;
 // The number of `module` among the source types.
 const WORD_MODULE: u8 = 1;
 
-/// Whether a node of this kind with these fields may stand in a field of the group, which gives
-/// this role, beside the fields of its parent.
+// Whether a node of this kind with these fields may stand in a field of the group, which gives
+// this role, beside the fields of its parent.
 #[tactic(auto, unfolding(crate::specs::Standing::admits))]
 fn admits(group: Group, role: Role, within: &FieldList, kind: Kind, fields: &FieldList) -> bool
     ensures { result ≡ spec.admits group role within.now kind fields.now }
@@ -279,25 +279,6 @@ fn group_admits(
 }
 
 // ---- conditions on a node alone
-
-fn text_in(field: &Field) -> &str
-    ensures { result.now ≡ text_of (part_of field.now) }
-{
-    match field {
-        Field::Text(text) => text.as_str(),
-        _ => "",
-    }
-}
-
-// The text that the first field is.
-fn first_text(fields: &FieldList) -> &str
-    ensures { result.now ≡ text_of fields.now }
-{
-    match fields.get(0) {
-        Some(field) => text_in(field),
-        None => "",
-    }
-}
 
 #[tactic(auto, unfolding(crate::specs::Standing::identifier_name))]
 fn identifier_name(node: &Node) -> &str
@@ -417,13 +398,6 @@ const UNLISTED: Column = Column {
     mark: Mark::Usual,
     omit: false,
 };
-
-// `columns.get(i)`, with its answer as one equation.
-fn get_column(columns: &[Column], i: usize) -> Option<&Column>
-    ensures { option_copied result ≡ slice_get columns.now i }
-{
-    columns.get(i)
-}
 
 fn column_at(columns: &[Column], i: usize) -> Column
     ensures { column_of result ≡ first_column (each (drop i (map column_of columns.now))) }

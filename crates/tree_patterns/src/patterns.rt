@@ -12,7 +12,7 @@ ghost use Rattle.tree_patterns.specs.BoundNames.{bound, bound_in, trees_of};
 use std::alloc::{AllocError, Global};
 use std::marker::Model;
 use tree_nodes::roles::role_at;
-use tree_nodes::{Column, Declared, Field, FieldList, Kind, Node, NodeList, Role, row};
+use tree_nodes::{Column, Declared, Field, FieldList, Kind, Node, NodeList, Role, get_column, row};
 
 /// Nodes of a tree, by reference. Contracts see it as the list of them.
 #[derive(Drop)]
@@ -73,13 +73,6 @@ fn declares(column: &Column, fields: &FieldList) -> bool
             role_at(column.mode, Role::Declares(Declared::Let), fields),
             Role::Declares(_)
         )
-}
-
-// `columns.get(i)`, with its answer as one equation.
-fn get_column(columns: &[Column], i: usize) -> Option<&Column>
-    ensures { option_copied result ≡ slice_get columns.now i }
-{
-    columns.get(i)
 }
 
 // Whether the i-th field of a node of this kind does so.

@@ -1,5 +1,5 @@
 use Rattle.std.proofs.Common.{arith}
-use Rattle.tree_core.proofs.Counts.{long_array-length, items_counted, members_counted}
+use Rattle.tree_core.proofs.ObjectCounts.{long_array-length, items_counted, members_counted}
 use Rattle.tree_core.proofs.limits.+count.Goals as goal
 
 pub item_objects-returns-then-len-ge-ITEMS : goal.item_objects-returns-then-len-ge-ITEMS

@@ -1,7 +1,7 @@
 use Rattle.std.proofs.Common.{◌≡◌, ◌+◌, ◌<◌, ◌^◌, drop}
 use Rattle.serde_json.specs.View.{items_view, members_view}
 use Rattle.tree_core.specs.Limits.{has_long_item, has_long_member, objects_in_items, objects_in_members}
-use Rattle.tree_core.proofs.Counts.{counted}
+use Rattle.tree_core.proofs.ObjectCounts.{counted}
 use Rattle.tree_core.proofs.limits.+count.Given as goal
 
 -- what is left is counted on top of the sum

@@ -21,7 +21,7 @@ use Rattle.tree_nodes.specs.declared.table.Mark.TheVariants.{Usual}
 use Rattle.tree_nodes.specs.declared.table.Mode.TheVariants.{Gives}
 use Rattle.tree_nodes.specs.declared.table.Role.TheVariants.{Plain}
 use Rattle.tree_nodes.proofs.Lists.{map_of_ref}
-use Rattle.tree_core.proofs.Printed.{end_of_items, fields_begin, item_refused, item_written, next_falls, no_fields_left, no_items_left, node_refused, node_under_way, shared_refused, shared_written, single_refused, single_written, units_of-word}
+use Rattle.tree_core.proofs.LeftToPrint.{end_of_items, fields_begin, item_refused, item_written, next_falls, no_fields_left, no_items_left, node_refused, node_under_way, shared_refused, shared_written, single_refused, single_written, units_of-word}
 use Rattle.tree_core.proofs.print.+write.Goals as goal
 use Rattle.tree_core.proofs.print.+write.Goals.{write_fields-else-loop-i-test, write_fields-then-loop-i-test+in_default, write_nodes-else-loop-i-test, write_nodes-then-loop-i-test+in_default}
 
@@ -120,7 +120,7 @@ write_fields-returns-in_err-write_shared-clause-refused g t c =
     at_err c.from_residual.result
     (shared_refused c.loop-i.invariant (get_or columns i no_column) (part_of c.in-Some.field.now) (sym c.in-Some.ensures.part) (drop_more columns i no_column c.loop-i-test.true)
     c.in-Some-shared_key.outer.now _ _ (sym (rw c.in-Some-shared_key.is at c.shared_key.ensures))
-    (map_of_ref column_of c.at.result ∙ ap (option_map column_of) c.at.ensures) c.get-in-Some-shared_key.ensures.part
+    (map_of_ref column_of c.get_column.result ∙ ap (option_map column_of) c.get_column.ensures) c.get-in-Some-shared_key.ensures.part
     c.in_err-write_shared.ensures.refused)
 
 pub write_fields-loop-i-preserved-in-Some-shared_key : goal.write_fields-loop-i-preserved-in-Some-shared_key
@@ -129,7 +129,7 @@ write_fields-loop-i-preserved-in-Some-shared_key g t c =
     let i = c.loop-i.i in
     shared_written c.loop-i.invariant (get_or columns i no_column) (part_of c.in-Some.field.now) (sym c.in-Some.ensures.part) (drop_more columns i no_column c.loop-i-test.true)
     c.in-Some-shared_key.outer.now _ _ (sym (rw c.in-Some-shared_key.is at c.shared_key.ensures))
-    (map_of_ref column_of c.at.result ∙ ap (option_map column_of) c.at.ensures) c.get-in-Some-shared_key.ensures.part
+    (map_of_ref column_of c.get_column.result ∙ ap (option_map column_of) c.get_column.ensures) c.get-in-Some-shared_key.ensures.part
     c.in_ok-write_shared.ensures.ok
 
 pub write_fields-returns-in_err-write_single-clause-refused : goal.write_fields-returns-in_err-write_single-clause-refused

@@ -6,7 +6,7 @@ use Rattle.tree_nodes.specs.Look.{item_size, part_size, parts_size, past, tree_s
 use Rattle.tree_core.specs.Meanings.{field_meanings, inside, inside_list, item_meanings}
 use Rattle.tree_nodes.specs.Rows.{column_of}
 use Rattle.tree_nodes.specs.Views.{part_of}
-use Rattle.tree_core.proofs.Printed.{FieldsLeft, next_size}
+use Rattle.tree_core.proofs.LeftToPrint.{FieldsLeft, next_size}
 use Rattle.tree_core.proofs.print.+write.Given as goal
 
 abbrev pub decreases-write_node : goal.decreases-write_node

@@ -5,7 +5,7 @@ use Rattle.json_text.specs.Units.{units_of}
 use Rattle.oxc_estree.specs.Open.{add_field, add_fields, new_struct}
 use Rattle.oxc_estree.specs.Out.{Out, plain}
 use Rattle.tree_core.specs.Meanings.{field, inside}
-use Rattle.tree_core.proofs.Printed.{refused_after_fields}
+use Rattle.tree_core.proofs.LeftToPrint.{refused_after_fields}
 use Rattle.tree_core.proofs.print.write_head.Goals as goal
 
 pub returns-clause-refused : goal.returns-clause-refused

@@ -4,7 +4,8 @@ use Rattle.serde_json.specs.View.{view, items_view, members_view}
 use Rattle.tree_core.specs.JsonOf as json
 use Rattle.tree_core.specs.Reading.{find_member}
 use Rattle.tree_nodes.specs.Rows.{column_of}
-use Rattle.tree_core.proofs.WhatIsLeft.{part_in-found, part_in-missing, readable_at, item_falls, items_read, items_next, fields_read, fields_next}
+use Rattle.tree_core.proofs.FieldUnderKey.{part_in-found, part_in-missing}
+use Rattle.tree_core.proofs.ReadSoFar.{readable_at, item_falls, items_read, items_next, fields_read, fields_next}
 use Rattle.tree_core.proofs.read.+read.Goals as goal
 
 pub read_fields-read_member-requires : goal.read_fields-read_member-requires

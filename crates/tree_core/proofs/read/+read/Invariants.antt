@@ -6,7 +6,7 @@ use Rattle.tree_nodes.specs.Look.{onto}
 use Rattle.tree_core.specs.Readable.{fields_in}
 use Rattle.tree_nodes.specs.Rows.{column_of}
 use Rattle.tree_nodes.specs.Views.{parts_of, items_of}
-use Rattle.tree_core.proofs.WhatIsLeft.{nodes_of}
+use Rattle.tree_core.proofs.ReadSoFar.{nodes_of}
 use Rattle.tree_core.proofs.read.+read.Given as goal
 
 abbrev pub decreases-read_node : goal.decreases-read_node

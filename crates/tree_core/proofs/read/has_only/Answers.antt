@@ -1,4 +1,4 @@
-use Rattle.tree_core.proofs.Members.{are_distinct-ordered}
+use Rattle.tree_core.proofs.ObjectMembers.{are_distinct-ordered}
 use Rattle.tree_core.proofs.read.has_only.Goals as goal
 
 pub returns-then-not-is_one_of-clause-distinct : goal.returns-then-not-is_one_of-clause-distinct

@@ -1,6 +1,6 @@
 use Rattle.std.proofs.Common.{length, nat_eq, ap, ◌∙◌}
 use Rattle.serde_json.proofs.Views.{view-Array}
-use Rattle.tree_core.proofs.Members.{is_blank_items}
+use Rattle.tree_core.proofs.ObjectMembers.{is_blank_items}
 use Rattle.tree_core.proofs.read.is_blank.Goals as goal
 
 pub returns-in-Array : goal.returns-in-Array

@@ -1,7 +1,7 @@
 use Rattle.std.proofs.Common.{◌≡◌, map, sym, ◌∙◌, rules}
 use Rattle.tree_core.specs.Reading.{is_known}
 use Rattle.tree_nodes.specs.Rows.{column_of}
-use Rattle.tree_core.proofs.Members.{is_known-units_of}
+use Rattle.tree_core.proofs.ObjectMembers.{is_known-units_of}
 use Rattle.tree_core.proofs.read.is_known.Goals as goal
 
 pub returns-then-eq-3 : goal.returns-then-eq-3

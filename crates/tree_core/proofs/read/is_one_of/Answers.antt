@@ -1,5 +1,5 @@
 use Rattle.std.proofs.Common.{rules}
-use Rattle.tree_core.proofs.Members.{either_key-units_of}
+use Rattle.tree_core.proofs.ObjectMembers.{either_key-units_of}
 use Rattle.tree_core.proofs.read.is_one_of.Goals as goal
 
 pub returns-then-eq : goal.returns-then-eq

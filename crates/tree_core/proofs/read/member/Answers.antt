@@ -4,7 +4,7 @@ use Rattle.serde_json.specs.Find.{get_member}
 use Rattle.serde_json.specs.View.{members_view}
 use Rattle.serde_json.proofs.Views.{view_of_ref, view-lookup}
 use Rattle.tree_core.specs.JsonOf.{json_of}
-use Rattle.tree_core.proofs.Members.{find_member-get_member, found_json, found_falls}
+use Rattle.tree_core.proofs.ObjectMembers.{find_member-get_member, found_json, found_falls}
 use Rattle.tree_core.proofs.read.member.Goals as goal
 
 pub returns : goal.returns

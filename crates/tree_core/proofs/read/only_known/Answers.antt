@@ -1,4 +1,4 @@
-use Rattle.tree_core.proofs.Members.{are_distinct-ordered}
+use Rattle.tree_core.proofs.ObjectMembers.{are_distinct-ordered}
 use Rattle.tree_core.proofs.read.only_known.Goals as goal
 
 pub returns-then-not-is_blank-clause-distinct : goal.returns-then-not-is_blank-clause-distinct

@@ -1,6 +1,6 @@
 use Rattle.std.proofs.Common.{true≢false, sym, ◌∙◌}
 use Rattle.serde_json.proofs.Views.{view-Object}
-use Rattle.tree_core.proofs.Members.{value_part-members}
+use Rattle.tree_core.proofs.ObjectMembers.{value_part-members}
 use Rattle.tree_core.proofs.read.read_literal.Goals as goal
 
 pub returns-else-is_empty-clause-err : goal.returns-else-is_empty-clause-err

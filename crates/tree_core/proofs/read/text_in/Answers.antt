@@ -1,5 +1,5 @@
 use Rattle.std.proofs.Common.{Some, sym, ap, ◌∙◌}
-use Rattle.tree_core.proofs.Members.{text_in-String}
+use Rattle.tree_core.proofs.ObjectMembers.{text_in-String}
 use Rattle.tree_core.proofs.read.text_in.Goals as goal
 
 pub returns-in-String : goal.returns-in-String

@@ -1,5 +1,5 @@
-use Rattle.std.proofs.Common.{◌≡◌, ◌++◌, ◌≤◌, Bor, List, drop, map, sym, ap, ◌∙◌, rules}
-use Rattle.std.proofs.lemmas.List.{append-nil}
+use Rattle.std.proofs.Common.{◌≡◌, ◌++◌, ◌≤◌, Bor, List, [], ◌∷◌, drop, map, sym, ap, ◌∙◌, rules}
+use Rattle.std.proofs.lemmas.List.{append-nil, map-append}
 use Rattle.tree_nodes.specs.Along.{each, first_column}
 use Rattle.tree_nodes.specs.Kinds.{is_kind}
 use Rattle.tree_nodes.specs.Look.{parts_len}
@@ -7,8 +7,9 @@ use Rattle.tree_nodes.specs.Table.{row}
 use Rattle.tree_nodes.specs.Tree.{Tree}
 use Rattle.tree_nodes.specs.Views.{part_of}
 use Rattle.tree_nodes.specs.declared.kind.Kind.TheVariants.{Identifier}
+use Rattle.tree_nodes.proofs.Lists.{past_end, past_items, past_len}
 use Rattle.tree_patterns.specs.BoundNames.{bound, bound_in, declares, declaring}
-use Rattle.tree_patterns.proofs.Runs.{if_so, map_end, next_field, next_item, no_field, no_item, of_identifier, of_list, of_other, on_ok, past_end, past_items, past_len}
+use Rattle.tree_patterns.proofs.BoundAlong.{if_so, next_field, next_item, no_field, no_item, of_identifier, of_list, of_other, on_ok}
 use Rattle.tree_patterns.proofs.patterns.+bind.Goals as goal
 use Rattle.tree_patterns.proofs.patterns.+bind.Goals.{bind_fields-then-field_declares+in_ok-bind_field, bind_fields-else-field_declares}
 
@@ -70,5 +71,5 @@ bind_node-returns-then-not-is t c =
 pub bind_node-returns : goal.bind_node-returns
 bind_node-returns t c =
     let identifies = c.if-not-is.ensures ∙ ap (λ (n : Tree). is_kind n.kind Identifier) c.node.view_is in
-    ap seen c.in_ok-push.ensures.items ∙ map_end _ c.args.names.now.items c.args.node
+    ap seen c.in_ok-push.ensures.items ∙ map-append _ c.args.names.now.items (c.args.node ∷ [])
     ∙ ap (λ x. seen c.args.names.now.items ++ x) (sym (of_identifier c.args.node.now (sym identifies)))

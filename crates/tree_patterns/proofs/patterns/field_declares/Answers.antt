@@ -1,8 +1,9 @@
 use Rattle.std.proofs.Common.{drop, sym, ap, ◌∙◌}
 use Rattle.tree_nodes.specs.Along.{each, first_column}
 use Rattle.tree_nodes.specs.Table.{Column, Row}
+use Rattle.tree_nodes.proofs.ColumnsAlong.{found_column, no_column}
 use Rattle.tree_patterns.specs.BoundNames.{declares, declaring}
-use Rattle.tree_patterns.proofs.Runs.{found_column, no_column, unlisted_is_none}
+use Rattle.tree_patterns.proofs.BoundAlong.{unlisted_is_none}
 use Rattle.tree_patterns.proofs.patterns.field_declares.Goals as goal
 
 pub returns-in-Some : goal.returns-in-Some

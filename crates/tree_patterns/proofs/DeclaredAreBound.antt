@@ -1,15 +1,14 @@
 -- Bound names by roles: which role declares makes no difference.
-use Rattle.std.proofs.Common.{◌≡◌, Bool, true, false, not, ◌&&◌, List, [], ◌∷◌, ◌++◌, if◌then◌else◌, refl, sym, ap, ap₂, ◌∙◌, true≢false}
-use Rattle.std.proofs.lemmas.Bool.{eqb-true}
+use Rattle.std.proofs.Common.{◌≡◌, Bool, true, false, not, ◌&&◌, List, [], ◌∷◌, ◌++◌, if◌then◌else◌, refl, ap, ap₂, ◌∙◌}
+use Rattle.std.proofs.lemmas.Bool.{and_parts}
 use Rattle.std.proofs.lemmas.List.Elements.{All-append, All-cons, All-nil}
 use Rattle.std.specs.Prelude.{All}
 use Rattle.tree_nodes.specs.Along.{Along, all, each, first_column, other_columns}
-use Rattle.tree_nodes.specs.Kinds.{is_kind, kind_at, kind_at-kind_number, kind_number}
+use Rattle.tree_nodes.specs.Kinds.{is_kind}
 use Rattle.tree_nodes.specs.Roles.{role_at}
 use Rattle.tree_nodes.specs.Standing.{declares_role}
 use Rattle.tree_nodes.specs.Table.{row}
 use Rattle.tree_nodes.specs.Tree.{Parts, Tree, alone, atom, child, done, many}
-use Rattle.tree_nodes.specs.declared.kind.Kind.{Kind}
 use Rattle.tree_nodes.specs.declared.kind.Kind.TheVariants.{Identifier}
 use Rattle.tree_nodes.specs.declared.table.Declared.{Declared}
 use Rattle.tree_nodes.specs.declared.table.Mode.{Mode}
@@ -18,7 +17,8 @@ use Rattle.tree_nodes.specs.declared.table.Role.{Role}
 use Rattle.tree_nodes.specs.declared.table.Role.TheVariants.{Called, Declares, MemberKey, Plain, Read, ReadWrite, Write}
 use Rattle.tree_patterns.specs.BoundNames.{BoundNamesAreIdentifiers, bound, declares, declaring, hands_on}
 use Rattle.tree_patterns.specs.ByRoles.{BoundNamesAreDeclared, declared}
-use Rattle.tree_patterns.proofs.Runs.{if_so}
+use Rattle.tree_nodes.proofs.EachKind.{kind_told}
+use Rattle.tree_patterns.proofs.BoundAlong.{if_so}
 
 -- a field gives a declaring role in a node of the one declaring role where it does so in a node of the other
 same_answer : (m : Mode) (d : Declared) (within : Parts) → declares_role (role_at m (Declares d) within) ≡ declares_role (role_at m declaring within)
@@ -44,10 +44,6 @@ if_declares Write e f = absurd (cc)
 if_declares ReadWrite e f = absurd (cc)
 if_declares Called e f = absurd (cc)
 
-second : (a b : Bool) → (a && b) ≡ true → b ≡ true
-second true b e = e
-second false b e = absurd (true≢false (sym e))
-
 by_test : (a b : Bool) (xs ys : List Tree) → a ≡ b → (a ≡ true → xs ≡ ys) → if_so a xs ≡ if_so b ys
 by_test true b xs ys e h = h refl ∙ ap (λ c. if_so c ys) e
 by_test false b xs ys e h = ap (λ c. if_so c ys) e
@@ -67,7 +63,7 @@ walk (child k s e fields more) cs d within =
     let here = by_test (not c.inside && declares_role r) (not c.inside && declares_role (role_at c.mode declaring within))
     (if is_kind k Identifier then t ∷ [] else declared fields below r fields) (if is_kind k Identifier then t ∷ [] else bound fields below fields)
     (ap (λ b. not c.inside && b) (same_answer c.mode d within))
-    (λ so. ap (λ xs. if is_kind k Identifier then t ∷ [] else xs) (inside (second (not c.inside) (declares_role r) so))) in
+    (λ so. ap (λ xs. if is_kind k Identifier then t ∷ [] else xs) (inside (and_parts (not c.inside) (declares_role r) so).1)) in
     ap₂ (λ x y. x ++ y) here (walk more (other_columns cs) d within)
 
 pub bound_names_are_declared : BoundNamesAreDeclared
@@ -81,23 +77,19 @@ Identifies t = t.kind ≡ Identifier
 abbrev AreIdentifiers : List Tree → Type 0
 AreIdentifiers names = All Identifies names
 
-is_identifier : (k : Kind) → is_kind k Identifier ≡ true → k ≡ Identifier
-unfolding is_kind
-is_identifier k e = sym (kind_at-kind_number k) ∙ ap kind_at (eqb-true (kind_number k) (kind_number Identifier) e)
-
 one_of : (a b : Bool) (t : Tree) (names : List Tree) → (b ≡ true → t.kind ≡ Identifier) → AreIdentifiers names → AreIdentifiers (if_so a (if b then t ∷ [] else names))
 one_of false b t names here below = All-nil Identifies
 one_of true true t names here below = All-cons Identifies t [] (here refl) (All-nil Identifies)
 one_of true false t names here below = below
 
 each_found : (ps : Parts) (cs : Along) (within : Parts) → AreIdentifiers (bound ps cs within)
-unfolding bound
+unfolding bound is_kind
 each_found done cs within = All-nil Identifies
 each_found (atom a more) cs within = each_found more (other_columns cs) within
 each_found (many items more) cs within = All-append Identifies _ _ (each_found items (all (first_column cs)) within) (each_found more (other_columns cs) within)
 each_found (child k s e fields more) cs within =
     All-append Identifies _ _
-    (one_of (declares declaring (first_column cs) within) (is_kind k Identifier) (record { kind = k; start = s; stop = e; fields = fields }) (bound fields (each (row k).columns) fields) (is_identifier k) (each_found fields (each (row k).columns) fields))
+    (one_of (declares declaring (first_column cs) within) (is_kind k Identifier) (record { kind = k; start = s; stop = e; fields = fields }) (bound fields (each (row k).columns) fields) (kind_told k Identifier) (each_found fields (each (row k).columns) fields))
     (each_found more (other_columns cs) within)
 
 pub bound_names_are_identifiers : BoundNamesAreIdentifiers

@@ -1,18 +1,18 @@
 -- The bound names of runs of parts: of one before another, and of one from its i-th part on.
-use Rattle.std.proofs.Common.{◌≡◌, ℕ, zero, suc, ◌+◌, ◌≤◌, Bool, true, false, List, [], ◌∷◌, ◌++◌, drop, map, slice_get, Result, OnOk, Option, Some, None, if◌then◌else◌, refl, sym, ap, ap₂, ◌∙◌, arith}
+use Rattle.std.proofs.Common.{◌≡◌, ℕ, zero, suc, ◌+◌, Bool, true, false, List, [], ◌∷◌, ◌++◌, drop, Result, OnOk, Option, Some, if◌then◌else◌, refl, sym, ap, ap₂, ◌∙◌, arith}
 use Rattle.std.specs.Prelude.{Ok, Err}
 use Rattle.std.proofs.lemmas.List.{append-nil, append_assoc}
 use Rattle.tree_nodes.specs.Along.{Along, all, each, first_column, other_columns}
 use Rattle.tree_nodes.specs.Kinds.{is_kind}
-use Rattle.tree_nodes.specs.Look.{are_items, item_at, onto, part_at, parts_len, past}
+use Rattle.tree_nodes.specs.Look.{are_items, item_at, onto, part_at, past}
 use Rattle.tree_nodes.specs.Roles.{role_at}
-use Rattle.tree_nodes.specs.Rows.{column_of}
 use Rattle.tree_nodes.specs.Standing.{declares_role}
 use Rattle.tree_nodes.specs.Table.{Column, row, unlisted}
-use Rattle.tree_nodes.specs.Tree.{Parts, Tree, alone, atom, child, done, empty, flag, many, text, units, whole, word}
+use Rattle.tree_nodes.specs.Tree.{Parts, Tree, alone, atom, child, done, many}
 use Rattle.tree_nodes.specs.Views.{item_of}
 use Rattle.tree_nodes.specs.declared.kind.Kind.TheVariants.{Identifier}
-use Rattle.tree_nodes.specs.declared.table.Column.{Column as RustColumn}
+use Rattle.tree_nodes.proofs.ColumnsAlong.{other_drop}
+use Rattle.tree_nodes.proofs.Lists.{past_item}
 use Rattle.tree_patterns.specs.BoundNames.{bound, bound_in, declares, declaring}
 
 abbrev pub if_so : Bool → List Tree → List Tree
@@ -21,10 +21,6 @@ if_so b names = if b then names else []
 pub on_ok : {T E P Q : Type 0} (r : Result T E) → (P → Q) → OnOk r P → OnOk r Q
 on_ok (Ok x) f p = f p
 on_ok (Err x) f p = p
-
-pub map_end : {A B : Type 0} (f : A → B) (xs : List A) (x : A) → map f (xs ++ (x ∷ [])) ≡ map f xs ++ (f x ∷ [])
-map_end f [] x = refl
-map_end f (y ∷ xs) x = ap (λ ys. f y ∷ ys) (map_end f xs x)
 
 -- what a node binds that stands where it declares
 abbrev pub of_node : Tree → List Tree
@@ -74,21 +70,6 @@ of_identifier t e = node_is t ∙ ap (λ b. if b then t ∷ [] else bound t.fiel
 pub of_other : (t : Tree) → is_kind t.kind Identifier ≡ false → bound_in (alone t) ≡ bound t.fields (each (row t.kind).columns) t.fields
 of_other t e = node_is t ∙ ap (λ b. if b then t ∷ [] else bound t.fields (each (row t.kind).columns) t.fields) e
 
--- ---- a column found by `get`
-
-pub found_column : (cs : List RustColumn) (i : ℕ) (c : RustColumn) → Some c ≡ slice_get cs i → column_of c ≡ first_column (each (drop i (map column_of cs)))
-unfolding first_column
-found_column [] i c e = absurd (cc)
-found_column (d ∷ cs) zero c e = let same : c ≡ d = cc in ap column_of same
-found_column (d ∷ cs) (suc i) c e = found_column cs i c e
-
-pub no_column : (cs : List RustColumn) (i : ℕ) → None ≡ slice_get cs i → unlisted ≡ first_column (each (drop i (map column_of cs)))
-unfolding first_column
-no_column [] zero e = refl
-no_column [] (suc i) e = refl
-no_column (d ∷ cs) zero e = absurd (cc)
-no_column (d ∷ cs) (suc i) e = no_column cs i e
-
 pub unlisted_is_none : (within : Parts) → declares declaring unlisted within ≡ false
 unfolding declares declares_role role_at
 unlisted_is_none within = refl
@@ -116,13 +97,6 @@ at_part (many items rest) zero p cs within e =
     rw (← same) (ap (λ x. x ++ bound rest (other_columns cs) within) (by_test (first_column cs) within items _ refl ∙ ap (if_so (declares declaring (first_column cs) within)) (sym (of_list items))))
 at_part (many items rest) (suc i) p cs within e = at_part rest i p cs within e
 
-other_drop : (cs : List Column) (i : ℕ) → other_columns (each (drop i cs)) ≡ each (drop (suc i) cs)
-unfolding other_columns
-other_drop [] zero = refl
-other_drop [] (suc i) = refl
-other_drop (c ∷ cs) zero = refl
-other_drop (c ∷ cs) (suc i) = other_drop cs i
-
 one_more : (i : ℕ) → suc i ≡ i + 1
 one_more i = omega arith
 
@@ -147,19 +121,6 @@ module _ (fields : Parts) (cs : List Column) (i : ℕ) (old total : List Tree) (
 
 -- ---- a run of items, from its i-th on
 
-past_item : (ps : Parts) (i : ℕ) (t : Option Tree) → are_items ps ≡ true → item_at ps i ≡ Some t → past i ps ≡ onto (item_of t) (past (suc i) ps)
-past_item done i t h e = absurd (cc)
-past_item (atom empty rest) zero t h e = let same : None ≡ t = cc in rw (← same) refl
-past_item (atom empty rest) (suc i) t h e = past_item rest i t h e
-past_item (atom (flag b) rest) i t h e = absurd (cc)
-past_item (atom (word n) rest) i t h e = absurd (cc)
-past_item (atom (text n) rest) i t h e = absurd (cc)
-past_item (atom (units n) rest) i t h e = absurd (cc)
-past_item (atom (whole n) rest) i t h e = absurd (cc)
-past_item (child k s p fields rest) zero t h e = let same : Some (record { kind = k; start = s; stop = p; fields = fields }) ≡ t = cc in rw (← same) refl
-past_item (child k s p fields rest) (suc i) t h e = past_item rest i t h e
-past_item (many items rest) i t h e = absurd (cc)
-
 module _ (items : Parts) (i : ℕ) (old total : List Tree) (so_far : old ++ bound_in (past i items) ≡ total) where
   pub next_item : (now : List Tree) (t : Option Tree) → are_items items ≡ true → Some t ≡ item_at items i → now ≡ old ++ bound_in (item_of t) → now ++ bound_in (past (i + 1) items) ≡ total
   next_item now t shaped e found =
@@ -171,35 +132,3 @@ module _ (items : Parts) (i : ℕ) (old total : List Tree) (so_far : old ++ boun
   pub no_item : past i items ≡ done → old ≡ total
   unfolding bound
   no_item e = sym (append-nil old) ∙ ap (λ ps. old ++ bound_in ps) (sym e) ∙ so_far
-
--- ---- where a run ends
-
-pub past_end : (ps : Parts) (i : ℕ) → part_at ps i ≡ None → past i ps ≡ done
-past_end done zero e = refl
-past_end done (suc i) e = refl
-past_end (atom a rest) zero e = absurd (cc)
-past_end (atom a rest) (suc i) e = past_end rest i e
-past_end (child k s t fields rest) zero e = absurd (cc)
-past_end (child k s t fields rest) (suc i) e = past_end rest i e
-past_end (many items rest) zero e = absurd (cc)
-past_end (many items rest) (suc i) e = past_end rest i e
-
-pub past_items : (ps : Parts) (i : ℕ) → item_at ps i ≡ None → past i ps ≡ done
-past_items done zero e = refl
-past_items done (suc i) e = refl
-past_items (atom a rest) zero e = absurd (cc)
-past_items (atom a rest) (suc i) e = past_items rest i e
-past_items (child k s t fields rest) zero e = absurd (cc)
-past_items (child k s t fields rest) (suc i) e = past_items rest i e
-past_items (many items rest) zero e = absurd (cc)
-past_items (many items rest) (suc i) e = past_items rest i e
-
-pub past_len : (ps : Parts) (i : ℕ) → parts_len ps ≤ i → past i ps ≡ done
-past_len done zero h = refl
-past_len done (suc i) h = refl
-past_len (atom a rest) zero h = absurd (omega arith)
-past_len (atom a rest) (suc i) h = past_len rest i (omega arith)
-past_len (child k s t fields rest) zero h = absurd (omega arith)
-past_len (child k s t fields rest) (suc i) h = past_len rest i (omega arith)
-past_len (many items rest) zero h = absurd (omega arith)
-past_len (many items rest) (suc i) h = past_len rest i (omega arith)

@@ -1,6 +1,7 @@
 -- A field is read from the member under its key.
-use Rattle.std.proofs.Common.{◌≡◌, Bool, true, false, Option, Some, None, if◌then◌else◌, refl, bytes_eq}
+use Rattle.std.proofs.Common.{◌≡◌, Bool, true, false, Option, Some, None, if◌then◌else◌, refl, sym, ap, ◌∙◌, bytes_eq}
 use Rattle.json_text.specs.Json.{Json, Members, no_members, member}
+use Rattle.tree_core.specs.Readable.{field_from}
 use Rattle.tree_core.specs.Reading.{absent, find_member, list_of, outer_key, part_from, part_in, shape_of}
 use Rattle.tree_nodes.specs.Table.{Column}
 use Rattle.tree_nodes.specs.Tree.{Parts}
@@ -19,3 +20,9 @@ pub part_in-part_found : (ms : Members) (c : Column) → part_in ms c ≡ part_f
 part_in-part_found no_members c = refl
 part_in-part_found (member k d ms) c =
     found_or c (bytes_eq k (outer_key c)) d (part_in ms c) (find_member (outer_key c) ms) (part_in-part_found ms c)
+
+pub part_in-found : (ms : Members) (c : Column) (d : Json) → Some d ≡ find_member (outer_key c) ms → part_in ms c ≡ field_from c d
+part_in-found ms c d e = part_in-part_found ms c ∙ ap (part_found c) (sym e)
+
+pub part_in-missing : (ms : Members) (c : Column) → None ≡ find_member (outer_key c) ms → part_in ms c ≡ absent c.class
+part_in-missing ms c e = part_in-part_found ms c ∙ ap (part_found c) (sym e)

@@ -1,14 +1,14 @@
 //! How nodes are built and looked into, how rows are found, and what a field says.
 
-use crate::literals::{LiteralCase, case_of, has_case, is_fixed, is_key, is_text};
-use crate::roles::{empty_at, flag_at, role_at, word_at};
-use crate::{
-    Declared, Field, FieldList, KINDS, Kind, Mode, Node, NodeList, Role, TreeText, Words,
-    is_placed, row, row_named, word_list,
-};
 use oxc_str::JSText;
 use std::alloc::{AllocError, Global};
 use std::test::Fail;
+use tree_nodes::literals::{LiteralCase, case_of, has_case, is_fixed, is_key, is_text};
+use tree_nodes::roles::{empty_at, first_text, flag_at, role_at, word_at};
+use tree_nodes::{
+    Declared, Field, FieldList, KINDS, Kind, Mode, Node, NodeList, Role, TreeText, Words,
+    get_column, is_placed, own_name_at, row, row_named, word_list,
+};
 
 #[test]
 fn a_tree_is_built(rt: HostRuntime) -> Result<(), Fail> {
@@ -33,10 +33,33 @@ fn a_tree_is_built(rt: HostRuntime) -> Result<(), Fail> {
 }
 
 #[test]
+fn a_name_is_found(rt: HostRuntime) -> Result<(), Fail> {
+    let text = TreeText::from_string(String::from_str(rt.alloc(), "a")?);
+    let node = Node {
+        kind: Kind::Identifier,
+        start: 0,
+        end: 1,
+        fields: FieldList::from_vec(vec![in rt.alloc(); Field::Text(text)]?),
+    };
+    let copy = node.try_clone(rt.alloc())?;
+    assert_eq!(rt; first_text(&copy.fields), "a");
+    let fields = FieldList::from_vec(vec![in rt.alloc();
+        Field::Child(Box::new(rt.alloc(), copy)?),
+    ]?);
+    assert_eq!(rt;
+        (own_name_at(&fields, 0), own_name_at(&fields, 1)),
+        ("a", "")
+    );
+    assert_eq!(rt; (fields.len(), fields.into_vec().len()), (1, 1));
+    Ok(())
+}
+
+#[test]
 fn rows_are_found(rt: HostRuntime) -> Result<(), Fail> {
     let found = row_named("Super").ok_or("a row")?;
     assert_eq!(rt; (found.kind.number(), row(Kind::Super).name), (7, "Super"));
     assert!(rt; row_named("super").is_none());
+    assert!(rt; get_column(found.columns, 0).is_none());
     assert_eq!(rt;
         (KINDS.len(), word_list(Words::UpdateOperators).len()),
         (73, 2)

@@ -13,7 +13,7 @@ use Rattle.tree_nodes.specs.declared.kind.Kind.TheVariants.{ArrayPattern, Assign
 use Rattle.tree_nodes.specs.declared.table.Role.TheVariants.{Plain, Read}
 use Rattle.tree_patterns.specs.BoundNames.{bound, bound_in, bound_names, declares}
 use Rattle.tree_patterns.specs.ByKind.{BindByKind, Binds, made}
-use Rattle.tree_patterns.proofs.Runs.{entered, if_so, of_node, passed_over}
+use Rattle.tree_patterns.proofs.BoundAlong.{entered, if_so, of_node, passed_over}
 
 -- a key declares nothing, computed or not
 no_key : (computed : Bool) → declares_role (if computed then Read else Plain) ≡ false

@@ -12,10 +12,10 @@ use Rattle.tree_core.specs.Values.{atom_value, fields_value, is_null_atom, put_m
 use Rattle.tree_nodes.specs.declared.table.Class.{Class as FieldClass}
 use Rattle.tree_nodes.specs.declared.table.Class.TheVariants.{Cooked, Flags, Pattern, Raw, TextOr}
 use Rattle.tree_nodes.proofs.Cases.{both, bytes_equal, bytes_same, not_true}
-use Rattle.tree_core.proofs.Entries.{AreEntries, Cell, Entry, HasOptionText, IsEntry, all_columns, all_members, all_parts, columns_of, parts_of, put}
-use Rattle.tree_core.proofs.Classes.{Sort, is_empty-atom, key_of_class, never_takes, of_cooked, of_flags, of_pattern, of_plain, of_raw, own_key, plain_class, put_at, is_cooked-Cooked, is_flags-Flags}
+use Rattle.tree_core.proofs.ObjectEntries.{AreEntries, Cell, Entry, HasOptionText, IsEntry, all_columns, all_members, all_parts, columns_of, parts_of, put}
+use Rattle.tree_core.proofs.FieldClasses.{Sort, is_empty-atom, key_of_class, never_takes, of_cooked, of_flags, of_pattern, of_plain, of_raw, own_key, plain_class, put_at, is_cooked-Cooked, is_flags-Flags}
 use Rattle.tree_core.proofs.Fits.{FitFields, FitsAtom, FitsNext}
-use Rattle.tree_core.proofs.Found.{part_found}
+use Rattle.tree_core.proofs.FieldUnderKey.{part_found}
 use Rattle.tree_core.proofs.RowFacts.{are_ordered, is_cooked, is_first, is_flags, is_inner, is_omittable, is_outer, takes_next}
 
 -- of a field in the node's own object: what the table says of it and of those after it

@@ -1,6 +1,7 @@
 -- What is left to print, from one field or item to the next.
 use Rattle.std.proofs.Common.{◌≡◌, ℕ, zero, suc, ◌+◌, ◌<◌, ◌≤◌, List, [], ◌∷◌, ◌++◌, Bool, Bor, true, false, not, ◌&&◌, ◌||◌, Option, Some, None, is_some, option_map, if◌then◌else◌, map, drop, length, slice_get, refl, sym, ap, subst, ◌∙◌, ◌⊎◌, inl, inr, get_or, arith, true≢false, add-one, IfSome}
 use Rattle.std.specs.List.{list_all}
+use Rattle.std.proofs.Math.Bool.{and-false}
 use Rattle.std.proofs.lemmas.List.{drop_all}
 use Rattle.json_text.specs.Units.{units_of}
 use Rattle.json_text.proofs.Units.{units_of-text_of_units}
@@ -18,23 +19,23 @@ use Rattle.tree_nodes.specs.Tree.{Atom, Parts, Tree, atom, child, done, empty, i
 use Rattle.tree_core.specs.Values.{is_marked, is_null_atom, word_text}
 use Rattle.tree_nodes.specs.Views.{item_of, part_of}
 use Rattle.tree_nodes.specs.declared.kind.Kind.{Kind}
-use Rattle.tree_nodes.specs.declared.kind.Kind.TheVariants.{Program}
 use Rattle.tree_nodes.specs.declared.node.Field.{Field as NodeField}
 use Rattle.tree_nodes.specs.declared.table.Class.{Class as FieldClass}
 use Rattle.tree_nodes.specs.declared.table.Column.{Column as RowColumn}
 use Rattle.tree_nodes.specs.declared.table.Class.TheVariants.{Pattern, Raw, Word}
 use Rattle.tree_nodes.specs.declared.table.Mark.{Mark}
 use Rattle.tree_nodes.specs.declared.table.Mode.{Mode}
-use Rattle.tree_core.proofs.Ascii.{is_ascii, text_of_ascii}
+use Rattle.tree_core.specs.Readable.{is_ascii}
+use Rattle.tree_core.proofs.AsciiTexts.{text_of_ascii}
 use Rattle.tree_nodes.proofs.Cases.{both, none_some, not_true, some_same}
-use Rattle.tree_core.proofs.Classes.{is_empty-atom}
+use Rattle.tree_core.proofs.FieldClasses.{is_empty-atom}
+use Rattle.tree_nodes.proofs.EachKind.{of_each}
 use Rattle.tree_nodes.proofs.Lists.{past_end, past_item, past_len}
 use Rattle.tree_core.proofs.RowFacts.{ascii_words}
 
 -- in each row a field that shares its object stands before one that does so with no other
 pub rows_are_paired : (k : Kind) → are_paired (row k).columns ≡ true
-rows_are_paired Program = refl
-rows_are_paired _ = refl
+rows_are_paired = of_each (λ k. are_paired (row k).columns) refl refl
 
 -- ---- a node
 
@@ -121,10 +122,6 @@ no_columns marked (atom a rest) = refl
 no_columns marked (child k s e fs rest) = refl
 no_columns marked (many items rest) = refl
 
-and_false : (b : Bool) → (b && false) ≡ false
-and_false true = refl
-and_false false = refl
-
 is_none : {A : Type 0} (o : Option A) → is_some o ≡ false → o ≡ None
 is_none None e = refl
 is_none (Some a) e = absurd (true≢false e)
@@ -140,11 +137,11 @@ single_next marked c cs (atom a rest) zero p e h =
 single_next marked c cs (atom a rest) (suc i) p e h = single_next marked c cs rest i p e h
 single_next marked c cs (child k s t fs rest) zero p e h =
     let same : child k s t fs done ≡ p = cc in
-    rw (← same, and_false) refl
+    rw (← same, and-false) refl
 single_next marked c cs (child k s t fs rest) (suc i) p e h = single_next marked c cs rest i p e h
 single_next marked c cs (many items rest) zero p e h =
     let same : many items done ≡ p = cc in
-    rw (← same, and_false) refl
+    rw (← same, and-false) refl
 single_next marked c cs (many items rest) (suc i) p e h = single_next marked c cs rest i p e h
 
 abbrev pub first : {A : Type 0} → List A → Option A

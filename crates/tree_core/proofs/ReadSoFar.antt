@@ -1,65 +1,31 @@
 -- What the reader's loops keep: what is read so far stands before what is left.
-use Rattle.std.proofs.Common.{◌≡◌, ℕ, zero, suc, get_or, ◌<◌, ◌≤◌, List, [], ◌∷◌, ◌++◌, length, map, Bool, true, false, true≢false, ◌&&◌, bytes_eq, IsTrue, Option, Some, None, option_map, if◌then◌else◌, refl, sym, ap, ◌∙◌, drop, ◌+◌, arith}
+use Rattle.std.proofs.Common.{◌≡◌, ℕ, zero, suc, get_or, ◌<◌, ◌≤◌, List, [], ◌∷◌, ◌++◌, length, map, Bool, IsTrue, Option, Some, None, option_map, refl, sym, ap, ◌∙◌, drop, ◌+◌, arith}
+use Rattle.std.proofs.lemmas.Bool.{and_parts}
 use Rattle.std.proofs.lemmas.List.{drop_more, drop_all}
-use Rattle.json_text.specs.Json.{Json, Members, no_members, member}
+use Rattle.json_text.specs.Json.{Members}
 use Rattle.serde_json.specs.Data.{depth, items_depth}
 use Rattle.serde_json.specs.View.{view, items_view}
 use Rattle.serde_json.specs.declared.value.Value.{Value}
 use Rattle.tree_core.specs.JsonOf.{json_of}
 use Rattle.tree_core.specs.JsonOf as json
-use Rattle.tree_nodes.specs.Tree.{Tree, Parts, done, atom, child, many, before, empty}
+use Rattle.tree_nodes.specs.Tree.{Tree, Parts, atom, before, empty}
 use Rattle.tree_nodes.specs.Look.{onto}
-use Rattle.tree_core.specs.Readable.{is_readable, are_readable, field_from, fields_in, item_from}
-use Rattle.tree_core.specs.Reading.{absent, find_member, outer_key, part_in, items_from}
+use Rattle.tree_core.specs.Readable.{is_readable, are_readable, fields_in, item_from}
+use Rattle.tree_core.specs.Reading.{part_in, items_from}
+use Rattle.tree_nodes.proofs.Onto.{onto_assoc, onto_done}
 use Rattle.tree_nodes.specs.Rows.{column_of}
-use Rattle.tree_nodes.specs.Table.{Column}
 use Rattle.tree_nodes.specs.Views.{part_of, parts_of, item_of, items_of}
 use Rattle.tree_nodes.specs.declared.node.Field.{Field}
 use Rattle.tree_nodes.specs.declared.table.Column.{Column as RustColumn}
 
--- ---- the field of a column
-
-abbrev field : Column → Option Json → Option Parts
-field c None = absent c.class
-field c (Some d) = field_from c d
-
-part_at : (b : Bool) (c : Column) (d : Json) (ms : Members) (found : Option Json) → (if b then Some d else find_member (outer_key c) ms) ≡ found
-    → (find_member (outer_key c) ms ≡ found → part_in ms c ≡ field c found) → (if b then field_from c d else part_in ms c) ≡ field c found
-part_at true c d ms found e later = ap (field c) e
-part_at false c d ms found e later = later e
-
-part_in-find_member : (ms : Members) (c : Column) (found : Option Json) → find_member (outer_key c) ms ≡ found → part_in ms c ≡ field c found
-part_in-find_member no_members c found e = ap (field c) e
-part_in-find_member (member k d ms) c found e = part_at (bytes_eq k (outer_key c)) c d ms found e (part_in-find_member ms c found)
-
-pub part_in-found : (ms : Members) (c : Column) (d : Json) → Some d ≡ find_member (outer_key c) ms → part_in ms c ≡ field_from c d
-part_in-found ms c d e = part_in-find_member ms c (Some d) (sym e)
-
-pub part_in-missing : (ms : Members) (c : Column) → None ≡ find_member (outer_key c) ms → part_in ms c ≡ absent c.class
-part_in-missing ms c e = part_in-find_member ms c None (sym e)
-
-both : (a b : Bool) → (a && b) ≡ true → (a ≡ true) × (b ≡ true)
-both true b e = (refl, e)
-both false b e = absurd (true≢false (sym e))
+-- ---- columns
 
 pub readable_at : (cs : List RustColumn) (i : ℕ) (c : RustColumn) → i < length cs → IsTrue (are_readable (map column_of cs)) → IsTrue (is_readable (column_of (get_or cs i c)))
 readable_at [] i c h all = absurd (omega arith)
-readable_at (d ∷ cs) zero c h all = (both _ (are_readable (map column_of cs)) all).0
-readable_at (d ∷ cs) (suc i) c h all = readable_at cs i c (omega arith) (both _ (are_readable (map column_of cs)) all).1
+readable_at (d ∷ cs) zero c h all = (and_parts _ (are_readable (map column_of cs)) all).0
+readable_at (d ∷ cs) (suc i) c h all = readable_at cs i c (omega arith) (and_parts _ (are_readable (map column_of cs)) all).1
 
 -- ---- runs
-
-onto_assoc : (a b c : Parts) → onto (onto a b) c ≡ onto a (onto b c)
-onto_assoc done b c = refl
-onto_assoc (atom x a) b c = ap (atom x) (onto_assoc a b c)
-onto_assoc (child k s e f a) b c = ap (child k s e f) (onto_assoc a b c)
-onto_assoc (many i a) b c = ap (many i) (onto_assoc a b c)
-
-onto_done : (a : Parts) → onto a done ≡ a
-onto_done done = refl
-onto_done (atom x a) = ap (atom x) (onto_done a)
-onto_done (child k s e f a) = ap (child k s e f) (onto_done a)
-onto_done (many i a) = ap (many i) (onto_done a)
 
 parts_of_push : (fs : List Field) (f : Field) → parts_of (fs ++ f ∷ []) ≡ onto (parts_of fs) (part_of f)
 parts_of_push [] f = onto_done (part_of f)

@@ -1,11 +1,11 @@
 -- The members of an object of `serde_json` beside those of the JSON value that it is.
-use Rattle.std.proofs.Common.{◌≡◌, ℕ, zero, suc, ◌≤◌, List, [], ◌∷◌, Bool, true, false, true≢false, ◌&&◌, ◌||◌, nat_lt, nat_eq, length, Option, Some, None, option_map, IfSome, Bor, String, Global, string_bytes, Ordering, Less, Equal, Greater, string_cmp, nat_cmp, is_eq, bytes_eq, codes, IsTrue, IsUtf8, IsAscii, if◌then◌else◌, refl, sym, ap, ◌∙◌, arith, rules}
+use Rattle.std.proofs.Common.{inl, inr, ◌≡◌, ℕ, ◌≤◌, List, [], ◌∷◌, Bool, true, false, ◌||◌, nat_eq, length, Option, Some, None, option_map, IfSome, Bor, String, Global, string_bytes, Ordering, Less, Equal, Greater, string_cmp, nat_cmp, is_eq, bytes_eq, codes, IsTrue, IsUtf8, if◌then◌else◌, refl, sym, ap, ◌∙◌, arith, rules}
 use Rattle.std.specs.Cmp.Lexicographic.{slice_cmp}
 use Rattle.std.specs.List.{AllByRecursion}
 use Rattle.std.specs.List.Sorted.{IsStrictlySortedBy}
 use Rattle.std.specs.Map.{keys_of}
 use Rattle.std.specs.Ordering.{match_ordering}
-use Rattle.std.proofs.lemmas.Bool.Decides.{nat_tests}
+use Rattle.std.proofs.lemmas.Bool.{and_parts, cases_Bool}
 use Rattle.std.proofs.lemmas.Cmp.{nat_list_cmp_total, tied_itself}
 use Rattle.std.proofs.lemmas.Map.Text.{is_eq-slice_cmp}
 use Rattle.std.proofs.lemmas.Slice.Eq.{bytes_eq-Decides}
@@ -23,33 +23,21 @@ use Rattle.tree_core.specs.JsonOf.{json_of, members_of}
 use Rattle.tree_core.specs.Readable.{is_ascii, is_readable, are_readable}
 use Rattle.tree_core.specs.Reading.{find_member, text_in, is_blank, are_distinct, outer_key, is_known, is_listed, value_part}
 use Rattle.tree_nodes.specs.Table.{Column}
+use Rattle.tree_nodes.proofs.Cases.{bytes_equal, bytes_turned}
+use Rattle.tree_core.proofs.AsciiTexts.{ascii_text}
 
 -- ---- keys
 
-both : (a b : Bool) → (a && b) ≡ true → (a ≡ true) × (b ≡ true)
-both true b e = (refl, e)
-both false b e = absurd (true≢false (sym e))
-
-pub IsAscii-test : (key : List ℕ) → IsTrue (is_ascii key) → IsAscii key
-IsAscii-test [] h i = omega arith
-IsAscii-test (b ∷ bs) h zero = let low : nat_lt b 128 ≡ true = (both _ (is_ascii bs) h).0 in grind (arith, nat_tests)
-IsAscii-test (b ∷ bs) h (suc i) = IsAscii-test bs (both _ (is_ascii bs) h).1 i
-
-same_truth : (a b : Bool) → (a ≡ true → b ≡ true) → (b ≡ true → a ≡ true) → a ≡ b
-same_truth true true f g = refl
-same_truth true false f g = absurd (true≢false (sym (f refl)))
-same_truth false true f g = absurd (true≢false (sym (g refl)))
-same_truth false false f g = refl
-
 bytes_eq-swap : (a b : List ℕ) → bytes_eq a b ≡ bytes_eq b a
-bytes_eq-swap a b = same_truth _ _
-    (λ e. (bytes_eq-Decides b a).1 (sym ((bytes_eq-Decides a b).0 e)))
-    (λ e. (bytes_eq-Decides a b).1 (sym ((bytes_eq-Decides b a).0 e)))
+bytes_eq-swap a b = elim (cases_Bool (bytes_eq a b)) [
+  | inl e ↦ e ∙ sym ((bytes_eq-Decides b a).1 (sym (bytes_equal a b e)))
+  | inr e ↦ e ∙ sym (bytes_turned a b e)
+]
 
 -- a key is compared with an ASCII word by its bytes
 key_is : (e : Entry) (key : List ℕ) → IsTrue (is_ascii key) → bytes_eq (units_of (string_bytes e.0)) key ≡ is_eq (slice_cmp nat_cmp key (string_bytes e.0))
 key_is e key h =
-    bytes_eq-units_of (string_bytes e.0) key (IsUtf8-string_bytes e.0) (IsAscii-test key h)
+    bytes_eq-units_of (string_bytes e.0) key (IsUtf8-string_bytes e.0) (ascii_text key h)
     ∙ bytes_eq-swap (string_bytes e.0) key ∙ sym (is_eq-slice_cmp key (string_bytes e.0))
 
 -- ---- the member with a key
@@ -100,15 +88,15 @@ are_distinct-ordered (e ∷ es) h = rw (missing_later e es h.0) (are_distinct-or
 -- ---- listed keys
 
 word_is : (word bs : List ℕ) → IsUtf8 bs → IsTrue (is_ascii word) → bytes_eq word (units_of bs) ≡ bytes_eq word bs
-word_is word bs u h = bytes_eq-swap word (units_of bs) ∙ bytes_eq-units_of bs word u (IsAscii-test word h) ∙ bytes_eq-swap bs word
+word_is word bs u h = bytes_eq-swap word (units_of bs) ∙ bytes_eq-units_of bs word u (ascii_text word h) ∙ bytes_eq-swap bs word
 
 outer_key_is_ascii : (c : Column) → IsTrue (is_readable c) → IsTrue (is_ascii (outer_key c))
-outer_key_is_ascii c h = (both (is_ascii (outer_key c)) (is_ascii c.key) h).0
+outer_key_is_ascii c h = (and_parts (is_ascii (outer_key c)) (is_ascii c.key) h).0
 
 is_listed-units_of : (bs : List ℕ) (cs : List Column) → IsUtf8 bs → IsTrue (are_readable cs) → is_listed (units_of bs) cs ≡ is_listed bs cs
 is_listed-units_of bs [] u h = refl
 is_listed-units_of bs (c ∷ cs) u h =
-    let here = both (is_readable c) (are_readable cs) h in
+    let here = and_parts (is_readable c) (are_readable cs) h in
     rw (word_is (outer_key c) bs u (outer_key_is_ascii c here.0), is_listed-units_of bs cs u here.1)
 
 pub is_known-units_of : (bs : List ℕ) (cs : List Column) → IsUtf8 bs → IsTrue (are_readable cs) → is_known (units_of bs) cs ≡ is_known bs cs
@@ -130,7 +118,7 @@ found_falls (Some v) key ms e = member_falls key ms (view v.now) (sym e)
 pub either_key-units_of : (bs k l : List ℕ) → IsUtf8 bs → IsTrue (is_ascii k) → IsTrue (is_ascii l)
     → (bytes_eq (units_of bs) k || bytes_eq (units_of bs) l) ≡ (bytes_eq bs k || bytes_eq bs l)
 either_key-units_of bs k l u h i =
-    rw (bytes_eq-units_of bs k u (IsAscii-test k h), bytes_eq-units_of bs l u (IsAscii-test l i)) refl
+    rw (bytes_eq-units_of bs k u (ascii_text k h), bytes_eq-units_of bs l u (ascii_text l i)) refl
 
 -- ---- one value
 

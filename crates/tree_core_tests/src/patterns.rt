@@ -1,9 +1,11 @@
 //! Which names some patterns and declarations bind.
 
-use crate::bound_names;
 use std::alloc::{AllocError, Global};
 use std::test::Fail;
 use tree_nodes::{Field, FieldList, Kind, Node, NodeList, TreeText};
+use tree_patterns::{
+    bound_names, bound_names_are_declared, bound_names_are_identifiers, bound_names_by_kind,
+};
 
 fn node(kind: Kind, fields: Vec<Field>) -> Node {
     Node {
@@ -195,5 +197,13 @@ fn classes_bind_their_names(rt: HostRuntime) -> Result<(), Fail> {
         vec![in alloc; id, super_class, body]?,
     );
     assert_eq!(rt; spelled(alloc, &class)?.as_str(), "A");
+    Ok(())
+}
+
+#[test]
+fn laws_are_called(_rt: HostRuntime) -> Result<(), Fail> {
+    bound_names_are_declared();
+    bound_names_are_identifiers();
+    bound_names_by_kind();
     Ok(())
 }

@@ -5,9 +5,10 @@ use Rattle.json_text.specs.HasText.{AreCodeUnits, HasText, MembersHaveText}
 use Rattle.tree_nodes.specs.Look.{onto}
 use Rattle.tree_core.specs.Reading.{are_distinct, find_member, is_listed, only_known, outer_key, part_in, run_of}
 use Rattle.tree_nodes.specs.Table.{Column}
-use Rattle.tree_nodes.specs.Tree.{Parts, atom, child, done, many}
+use Rattle.tree_nodes.specs.Tree.{Parts, done}
 use Rattle.tree_nodes.proofs.Cases.{bytes_differ, bytes_same, bytes_turned, map_some, neither, or_true, some_same, then_some}
-use Rattle.tree_core.proofs.Found.{part_found, part_in-part_found}
+use Rattle.tree_nodes.proofs.Onto.{onto_assoc}
+use Rattle.tree_core.proofs.FieldUnderKey.{part_found, part_in-part_found}
 
 -- a column, and what is read from it
 pub record Cell : Type 0 where
@@ -65,12 +66,6 @@ AreEntries [] = Unit {0}
 AreEntries (e ∷ es) = IsEntry e × (is_listed e.key (all_columns es) ≡ false) × AreEntries es
 
 -- ---- runs
-
-onto_assoc : (p q r : Parts) → onto (onto p q) r ≡ onto p (onto q r)
-onto_assoc done q r = refl
-onto_assoc (atom a more) q r = ap (atom a) (onto_assoc more q r)
-onto_assoc (child k s e fields more) q r = ap (child k s e fields) (onto_assoc more q r)
-onto_assoc (many items more) q r = ap (many items) (onto_assoc more q r)
 
 run_of-append : (part : Column → Option Parts) (xs ys : List Column) (p q : Parts) → run_of part xs ≡ Some p
     → run_of part ys ≡ Some q → run_of part (xs ++ ys) ≡ Some (onto p q)

@@ -1,0 +1,132 @@
+//! What is read of the fields of each class, and how it is printed.
+
+use crate::texts::{expression, json, module, output, printed};
+use std::test::Fail;
+use tree_core::{printed_text_reads, reading_undoes_printing};
+
+// As acorn writes `let x = 1; x`, with keys in another order, fields that hold nothing and fields
+// left out.
+#[test]
+fn statements(rt: HostRuntime) -> Result<(), Fail> {
+    let alloc = rt.alloc();
+    for (body, wanted) in [
+        (
+            "{'type':'VariableDeclaration','start':0,'end':10,'declarations':[{'type':'VariableDeclarator','start':4,'end':9,'id':@,'init':{'type':'Literal','start':8,'end':9,'value':1,'raw':'1'}}],'kind':'let'}",
+            "{'type':'VariableDeclaration','start':0,'end':10,'kind':'let','declarations':[{'type':'VariableDeclarator','start':4,'end':9,'id':@,'init':{'type':'Literal','start':8,'end':9,'value':1,'raw':'1'}}]}",
+        ),
+        (
+            "{'expression':{'arguments':[{'name':'\u{e9}','type':'Identifier','optional':false}],'callee':{'name':'$1','type':'Identifier','loc':null,'decorators':[]},'type':'CallExpression'},'directive':null,'type':'ExpressionStatement'}",
+            "{'type':'ExpressionStatement','expression':{'type':'CallExpression','callee':{'type':'Identifier','name':'$1'},'arguments':[{'type':'Identifier','name':'\u{e9}'}],'optional':false}}",
+        ),
+        (
+            "{'type':'ExpressionStatement','expression':@,'directive':'a'}",
+            "{'type':'ExpressionStatement','expression':@,'directive':'a'}",
+        ),
+    ] {
+        let text = printed(alloc, module(alloc, body)?.as_str())?;
+        let wanted = output(alloc, module(alloc, wanted)?.as_str(), "[]")?;
+        assert_eq!(rt; text.as_str(), wanted.as_str());
+    }
+    Ok(())
+}
+
+#[test]
+fn literals(rt: HostRuntime) -> Result<(), Fail> {
+    let alloc = rt.alloc();
+    let path = "[[\"body\",0,\"expression\"]]";
+    for (fields, wanted, fixes) in [
+        ("'value':0,'raw':'x'", "'value':0,'raw':'x'", "[]"),
+        (
+            "'value':18446744073709551615",
+            "'value':18446744073709551615,'raw':null",
+            "[]",
+        ),
+        (
+            "'value':'a\\ud83d\\ude00'",
+            "'value':'a\u{1f600}','raw':null",
+            "[]",
+        ),
+        ("'value':[55296]", "'value':'\\ud800','raw':null", "[]"),
+        (
+            "'value':[56832,55357,97]",
+            "'value':'\\ude00\\ud83da','raw':null",
+            "[]",
+        ),
+        (
+            "'value':[55357,56832]",
+            "'value':'\u{1f600}','raw':null",
+            "[]",
+        ),
+        (
+            "'value':false,'regex':null,'bigint':null",
+            "'value':false,'raw':null",
+            "[]",
+        ),
+        ("'raw':'null'", "'value':null,'raw':'null'", "[]"),
+        ("'value':null,'raw':'1.5'", "'value':null,'raw':'1.5'", "[]"),
+        (
+            "'raw':'/a/g','value':{},'regex':{'flags':'g','pattern':'a'}",
+            "'value':null,'raw':'/a/g','regex':{'pattern':'a','flags':'g'}",
+            path,
+        ),
+        (
+            "'bigint':'1','raw':'1n'",
+            "'value':null,'raw':'1n','bigint':'1'",
+            path,
+        ),
+    ] {
+        let fields = format!(in alloc; "{{'type':'Literal',{fields}}}")?;
+        let wanted = format!(in alloc; "{{'type':'Literal',{wanted}}}")?;
+        let text = printed(alloc, expression(alloc, fields.as_str())?.as_str())?;
+        let wanted = output(alloc, expression(alloc, wanted.as_str())?.as_str(), fixes)?;
+        assert_eq!(rt; text.as_str(), wanted.as_str());
+    }
+    Ok(())
+}
+
+#[test]
+fn template_elements(rt: HostRuntime) -> Result<(), Fail> {
+    let alloc = rt.alloc();
+    for (value, wanted) in [
+        ("'cooked':'a','raw':'a'", "'raw':'a','cooked':'a'"),
+        ("'raw':'\\\\u'", "'raw':'\\\\u','cooked':null"),
+        (
+            "'raw':[92,55296],'cooked':[55296]",
+            "'raw':'\\\\\\ud800','cooked':'\\ud800'",
+        ),
+    ] {
+        let value = format!(in alloc;
+            "{{'type':'TemplateLiteral','quasis':[{{'type':'TemplateElement','value':{{{value}}},'tail':true}}],'expressions':[]}}"
+        )?;
+        let wanted = format!(in alloc;
+            "{{'type':'TemplateLiteral','quasis':[{{'type':'TemplateElement','value':{{{wanted}}},'tail':true}}],'expressions':[]}}"
+        )?;
+        let text = printed(alloc, expression(alloc, value.as_str())?.as_str())?;
+        let wanted = output(alloc, expression(alloc, wanted.as_str())?.as_str(), "[]")?;
+        assert_eq!(rt; text.as_str(), wanted.as_str());
+    }
+    Ok(())
+}
+
+// `[, 1n, a, 1n]`
+#[test]
+fn marks_lead_to_the_literals(rt: HostRuntime) -> Result<(), Fail> {
+    let alloc = rt.alloc();
+    let elements =
+        "{'type':'ArrayExpression','elements':[null,{'type':'Literal','value':null,'raw':'1n','bigint':'1'},@,{'type':'Literal','value':null,'raw':'1n','bigint':'1'}]}";
+    let text = expression(alloc, elements)?;
+    let fixes = json(
+        alloc,
+        "[['body',0,'expression','elements',1],['body',0,'expression','elements',3]]",
+    )?;
+    let wanted = output(alloc, text.as_str(), fixes.as_str())?;
+    assert_eq!(rt; printed(alloc, text.as_str())?.as_str(), wanted.as_str());
+    Ok(())
+}
+
+#[test]
+fn laws_are_called(_rt: HostRuntime) -> Result<(), Fail> {
+    reading_undoes_printing();
+    printed_text_reads();
+    Ok(())
+}
