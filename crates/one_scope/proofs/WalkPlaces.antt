@@ -94,14 +94,10 @@ met-follows PrivateNameHere b e inner s x l f = record {
 }
 met-follows _ b e inner s x l f = record { nodes = ap suc f.nodes; spots = f.spots }
 
-mark-role : (k : Mark) (fields : Parts) (n : ℕ) (o : List ℕ) (e : Setting) → (with_mark k fields n o e).role ≡ e.role
-unfolding all_open
-mark-role Usual fields n o e = refl
-mark-role _ fields n o e = refl
 
 field-role : (c : Column) (a : Around) → (at_field c a).role ≡ role_at c.mode a.outside.role a.fields
 unfolding all_open
-field-role c a = mark-role c.mark a.fields _ _ _
+field-role c a = mark_keeps_role c.mark a.fields _ _ _
 
 walk-follows : (x : Parts) (columns : Along) (a : Around) (s : Seen) (within : Parts) (l : Listing)
     → AlongAgrees columns a.outside.role a.fields within → Follows l s → Follows (list_run x columns a.outside.role within l) (walk x columns a s)

@@ -22,7 +22,7 @@ use Rattle.tree_places.proofs.Runs.{AllOf, PairsOf, PairsOf-push}
 use Rattle.tree_places.specs.Places.{Around, Seen, Setting, Site, at_field, before_all, enter, hide, met, nothing_yet, seen, side, sites, strict_in, walk}
 use Rattle.tree_places.specs.Scopes.{Scope, same_scope}
 use Rattle.scope_rules.proofs.Lists.{In, any-some, tested}
-use Rattle.scope_rules.proofs.VarScopes.{After, AllFit, AllOf-map, AllOf-reverse, Below, Fits, Met, field-fits, fits-more, hands_on, mark-role, mark-scope, met-fits, no_role, then-after, walk-fits}
+use Rattle.scope_rules.proofs.VarScopes.{After, AllFit, AllOf-map, AllOf-reverse, Below, Fits, Met, field-fits, fits-more, hands_on, mark_keeps_role, mark_keeps_scope, met-fits, no_role, then-after, walk-fits}
 use Rattle.scope_rules.specs.FunctionNames.{FunctionNamesStandApart, begins_with_name, is_function_expression, is_identifier_kind, names_functions_once}
 use Rattle.scope_rules.specs.Homes.{home, is_function_name, is_var, names_function}
 use Rattle.scope_rules.specs.Open.{all_open}
@@ -175,7 +175,7 @@ unfolding all_open
 quiet_role c a q = tested (is_function_name (at_field c a).role)
     (λ h.
     let two : (not (gives_name c.mode) ≡ true) × (not (hands_on c.mode && is_function_name a.outside.role) ≡ true) = and_parts _ _ q in
-    go two (named-by c.mode a.outside.role a.fields (subst (λ (r : Role). is_function_name r ≡ true) (mark-role c.mark _ _ _ _) h)))
+    go two (named-by c.mode a.outside.role a.fields (subst (λ (r : Role). is_function_name r ≡ true) (mark_keeps_role c.mark _ _ _ _) h)))
     (λ h. h)
   where
     go : (not (gives_name c.mode) ≡ true) × (not (hands_on c.mode && is_function_name a.outside.role) ≡ true) → (gives_name c.mode ≡ true) ⊎ ((hands_on c.mode ≡ true) × (is_function_name a.outside.role ≡ true)) → is_function_name (at_field c a).role ≡ false
@@ -253,7 +253,7 @@ Ready x columns a s = (all_quiet (is_function_name a.outside.role) columns ≡ t
 
 field_scope : (c : Column) (a : Around) → c.inside ≡ true → (at_field c a).scope ≡ a.inside.scope
 unfolding all_open
-field_scope c a h = mark-scope c.mark _ _ _ _ ∙ ap (λ b. (side b a).scope) h
+field_scope c a h = mark_keeps_scope c.mark _ _ _ _ ∙ ap (λ b. (side b a).scope) h
 
 -- the fields of a node whose own role is no function-name
 entered : (k : Kind) (fields : Parts) (e : Setting) (b : ℕ) (s : Seen) (u : ℕ → Bool) → AllFit u (length s.scopes) s.sites → is_function_name e.role ≡ false → (not (is_function_expression k) || begins_with_name fields) ≡ true

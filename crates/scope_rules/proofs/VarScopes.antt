@@ -108,23 +108,9 @@ pub record Met (u : ℕ → Bool) (s s' : Seen) (inner : Setting) : Type 0 where
   pub after : After u s s'
   pub inside : Fits after.vars (length s'.scopes) inner
 
-abbrev inner : Opens → Setting → Bool → Seen → Setting
-inner o e strict s = opened o (length s.scopes) s.classes (record e { strict = strict })
 
-pub mark-scope : (k : Mark) (fields : Parts) (n : ℕ) (o : List ℕ) (e : Setting) → (with_mark k fields n o e).scope ≡ e.scope
-unfolding all_open
-mark-scope Usual fields n o e = refl
-mark-scope _ fields n o e = refl
 
-mark-var : (k : Mark) (fields : Parts) (n : ℕ) (o : List ℕ) (e : Setting) → (with_mark k fields n o e).var_scope ≡ e.var_scope
-unfolding all_open
-mark-var Usual fields n o e = refl
-mark-var _ fields n o e = refl
 
-pub mark-role : (k : Mark) (fields : Parts) (n : ℕ) (o : List ℕ) (e : Setting) → (with_mark k fields n o e).role ≡ e.role
-unfolding all_open
-mark-role Usual fields n o e = refl
-mark-role _ fields n o e = refl
 
 side-fits : (b : Bool) (v : ℕ → Bool) (n : ℕ) (a : Around) → Fits v n a.outside → Fits v n a.inside → Fits v n (side b a)
 unfolding all_open
@@ -135,7 +121,7 @@ pub field-fits : (f : Column) (v : ℕ → Bool) (n : ℕ) (a : Around) → Fits
 unfolding all_open
 field-fits f v n a p q =
     let s : Fits v n (side f.inside a) = side-fits f.inside v n a p q in
-    record { below = rw (mark-scope f.mark) s.below; near = rw (mark-scope f.mark, mark-var f.mark) s.near }
+    record { below = rw (mark_keeps_scope f.mark) s.below; near = rw (mark_keeps_scope f.mark, mark_keeps_var_scope f.mark) s.near }
 
 -- a node that opens no scope, and one that does
 unopened : (u : ℕ → Bool) (s s' : Seen) (e e' : Setting) → length s'.scopes ≡ length s.scopes → e'.scope ≡ e.scope → e'.var_scope ≡ e.var_scope
@@ -160,7 +146,7 @@ newly u h s s' e e' l w i j p a =
     }
 
 pub met-fits : (o : Opens) (b : ℕ) (e : Setting) (strict : Bool) (u : ℕ → Bool) (s : Seen) → Fits u (length s.scopes) e → AllFit u (length s.scopes) s.sites
-    → Met u s (met o b e (inner o e strict s).scope s) (inner o e strict s)
+    → Met u s (met o b e (inner_setting o e strict s).scope s) (inner_setting o e strict s)
 unfolding all_open
 met-fits Nothing b e strict u s p a = unopened u s _ e _ refl refl refl p a
 met-fits Block b e strict u s p a = newly u false s _ e _ refl refl refl refl p a
@@ -412,8 +398,8 @@ field-pinned : (c : Column) (a : Around) (o : Opens) → column_fits o c ≡ tru
 unfolding all_open
 field-pinned c a o f i p h =
     let two : ((not (pins c.mode) || (c.inside && opens_var_scope o)) ≡ true) × ((not (hands_on c.mode) || not c.inside) ≡ true) = and_parts _ _ f in
-    let role : is_pinned (role_at c.mode a.outside.role a.fields) ≡ true = subst (λ (r : Role). is_pinned r ≡ true) (mark-role c.mark _ _ _ _) h in
-    rw (mark-scope c.mark, mark-var c.mark) (go two (pinned-by c.mode a.outside.role a.fields role))
+    let role : is_pinned (role_at c.mode a.outside.role a.fields) ≡ true = subst (λ (r : Role). is_pinned r ≡ true) (mark_keeps_role c.mark _ _ _ _) h in
+    rw (mark_keeps_scope c.mark, mark_keeps_var_scope c.mark) (go two (pinned-by c.mode a.outside.role a.fields role))
   where
     go : ((not (pins c.mode) || (c.inside && opens_var_scope o)) ≡ true) × ((not (hands_on c.mode) || not c.inside) ≡ true)
         → (pins c.mode ≡ true) ⊎ ((hands_on c.mode ≡ true) × (is_pinned a.outside.role ≡ true)) → (side c.inside a).scope ≡ (side c.inside a).var_scope

@@ -10,7 +10,7 @@ use Rattle.tree_nodes.specs.declared.table.Mark.TheVariants.{Usual}
 use Rattle.tree_nodes.specs.declared.table.Opens.{Opens}
 use Rattle.tree_nodes.specs.declared.table.Opens.TheVariants.{BareBlock, Block, ClassMembers, Hoisting, NameHere, Nothing, PrivateNameHere, WithBody}
 use Rattle.tree_places.proofs.Outwards.{inside-refl}
-use Rattle.tree_places.proofs.Runs.{AllOf, AllOf-push}
+use Rattle.list_laws.proofs.AllOf.{AllOf, AllOf_push}
 use Rattle.std.proofs.lemmas.Grind.{reverse_onto}
 use Rattle.tree_places.specs.Open.{all_open}
 use Rattle.tree_places.specs.Places.{Around, Seen, Setting, Site, at_field, before_all, enter, hide, met, nothing_yet, opened, seen, side, sites, strict_in, walk, with_mark}
@@ -76,7 +76,7 @@ walk-homed (child k b st fields more) columns a s p q r =
 reversed : (ss : List Site) → AllHomed ss → AllHomed (reverse ss)
 unfolding all_open
 reversed [] a = tt
-reversed (s ∷ ss) a = rw (reverse_onto ss s []) (AllOf-push (λ x. Homed x.setting) (reverse ss) s (reversed ss a.1) a.0)
+reversed (s ∷ ss) a = rw (reverse_onto ss s []) (AllOf_push (λ x. Homed x.setting) (reverse ss) s (reversed ss a.1) a.0)
 
 pub var_scopes_lie_outside : (t : Parts) → AllOf (λ s. is_inside s.setting.scope s.setting.var_scope ≡ true) (sites t)
 unfolding all_open

@@ -3,6 +3,8 @@ use Rattle.std.specs.Prelude.{◌≡◌, ℕ, suc, ◌+◌, ◌<◌, ◌≤◌, 
 use Rattle.std.proofs.Common.{refl, sym, ap, ◌∙◌, arith}
 use Rattle.std.proofs.lemmas.Grind.{reverse_onto}
 use Rattle.std.proofs.lemmas.List.{length-append, append_assoc, append-nil, map-append, reverse-reverse}
+use Rattle.tree_places.proofs.MarkedSettings.{mark_keeps_scope, mark_keeps_var_scope}
+use Rattle.list_laws.proofs.Mapped.{map_reverse}
 use Rattle.tree_nodes.specs.Along.{Along, all, each, first_column, other_columns}
 use Rattle.tree_nodes.specs.Table.{Column, row, unlisted}
 use Rattle.tree_nodes.specs.Tree.{Parts, atom, child, done, many}
@@ -14,19 +16,11 @@ use Rattle.tree_places.specs.Lineage.{Found, Line, Lineage, ancestor, at_side, c
 use Rattle.tree_places.specs.Open.{all_open}
 use Rattle.tree_places.specs.Places.{Around, Seen, Setting, at_field, before_all, enter, hide, is_place, met, nothing_yet, opened, seen, side, sites, strict_in, walk, with_mark}
 use Rattle.tree_places.specs.Scopes.{Scope}
-use Rattle.tree_places.proofs.Runs.{AllOf}
+use Rattle.list_laws.proofs.AllOf.{AllOf, AllOf_append, AllOf_weaken}
 
 -- ---- how many of the opening nodes come before a node
 
-AllOf-append : {X : Type 0} (P : X → Type 0) (xs ys : List X) → AllOf P xs → AllOf P ys → AllOf P (xs ++ ys)
-unfolding all_open
-AllOf-append P [] ys a b = b
-AllOf-append P (x ∷ xs) ys a b = (a.0, AllOf-append P xs ys a.1 b)
 
-AllOf-map : {X : Type 0} (P Q : X → Type 0) → ((x : X) → P x → Q x) → (xs : List X) → AllOf P xs → AllOf Q xs
-unfolding all_open
-AllOf-map P Q f [] a = tt
-AllOf-map P Q f (x ∷ xs) a = (f x a.0, AllOf-map P Q f xs a.1)
 
 abbrev Below : ℕ → List ℕ → Type 0
 Below n xs = AllOf (λ m. m < n) xs
@@ -52,16 +46,16 @@ unfolding all_open
 openers-from done columns n = tt
 openers-from (atom v more) columns n = openers-from more (other_columns columns) n
 openers-from (many items more) columns n =
-    AllOf-append (λ m. n ≤ m) (openers items (all (first_column columns)) n) (openers more (other_columns columns) (count_nodes items + n))
+    AllOf_append (λ m. n ≤ m) (openers items (all (first_column columns)) n) (openers more (other_columns columns) (count_nodes items + n))
     (openers-from items (all (first_column columns)) n)
-    (AllOf-map (λ m. count_nodes items + n ≤ m) (λ m. n ≤ m) (λ m h. omega (arith, h)) (openers more (other_columns columns) (count_nodes items + n)) (openers-from more (other_columns columns) (count_nodes items + n)))
+    (AllOf_weaken (λ m. count_nodes items + n ≤ m) (λ m. n ≤ m) (λ m h. omega (arith, h)) (openers more (other_columns columns) (count_nodes items + n)) (openers-from more (other_columns columns) (count_nodes items + n)))
 openers-from (child k s e fields more) columns n =
     let fs : List ℕ = openers fields (each (row k).columns) (suc n) in
     let ms : List ℕ = openers more (other_columns columns) (suc (count_nodes fields) + n) in
     go (opens_scope (row k).opens (is_bare (first_column columns).mark))
-    (AllOf-append (λ m. n ≤ m) fs ms
-    (AllOf-map (λ m. suc n ≤ m) (λ m. n ≤ m) (λ m h. omega (arith, h)) fs (openers-from fields (each (row k).columns) (suc n)))
-    (AllOf-map (λ m. suc (count_nodes fields) + n ≤ m) (λ m. n ≤ m) (λ m h. omega (arith, h)) ms (openers-from more (other_columns columns) (suc (count_nodes fields) + n))))
+    (AllOf_append (λ m. n ≤ m) fs ms
+    (AllOf_weaken (λ m. suc n ≤ m) (λ m. n ≤ m) (λ m h. omega (arith, h)) fs (openers-from fields (each (row k).columns) (suc n)))
+    (AllOf_weaken (λ m. suc (count_nodes fields) + n ≤ m) (λ m. n ≤ m) (λ m h. omega (arith, h)) ms (openers-from more (other_columns columns) (suc (count_nodes fields) + n))))
   where
     go : (b : Bool) → From n (openers fields (each (row k).columns) (suc n) ++ openers more (other_columns columns) (suc (count_nodes fields) + n))
         → From n (cond b (n ∷ []) [] ++ (openers fields (each (row k).columns) (suc n) ++ openers more (other_columns columns) (suc (count_nodes fields) + n)))
@@ -73,17 +67,17 @@ unfolding all_open
 openers-below done columns n = tt
 openers-below (atom v more) columns n = openers-below more (other_columns columns) n
 openers-below (many items more) columns n =
-    AllOf-append (λ m. m < (count_nodes items + count_nodes more) + n) (openers items (all (first_column columns)) n) (openers more (other_columns columns) (count_nodes items + n))
-    (AllOf-map (λ m. m < count_nodes items + n) (λ m. m < (count_nodes items + count_nodes more) + n) (λ m h. omega (arith, h)) (openers items (all (first_column columns)) n) (openers-below items (all (first_column columns)) n))
-    (AllOf-map (λ m. m < count_nodes more + (count_nodes items + n)) (λ m. m < (count_nodes items + count_nodes more) + n) (λ m h. omega (arith, h)) (openers more (other_columns columns) (count_nodes items + n)) (openers-below more (other_columns columns) (count_nodes items + n)))
+    AllOf_append (λ m. m < (count_nodes items + count_nodes more) + n) (openers items (all (first_column columns)) n) (openers more (other_columns columns) (count_nodes items + n))
+    (AllOf_weaken (λ m. m < count_nodes items + n) (λ m. m < (count_nodes items + count_nodes more) + n) (λ m h. omega (arith, h)) (openers items (all (first_column columns)) n) (openers-below items (all (first_column columns)) n))
+    (AllOf_weaken (λ m. m < count_nodes more + (count_nodes items + n)) (λ m. m < (count_nodes items + count_nodes more) + n) (λ m h. omega (arith, h)) (openers more (other_columns columns) (count_nodes items + n)) (openers-below more (other_columns columns) (count_nodes items + n)))
 openers-below (child k s e fields more) columns n =
     let last : ℕ = suc (count_nodes fields + count_nodes more) + n in
     let fs : List ℕ = openers fields (each (row k).columns) (suc n) in
     let ms : List ℕ = openers more (other_columns columns) (suc (count_nodes fields) + n) in
     go (opens_scope (row k).opens (is_bare (first_column columns).mark))
-    (AllOf-append (λ m. m < last) fs ms
-    (AllOf-map (λ m. m < count_nodes fields + suc n) (λ m. m < last) (λ m h. omega (arith, h)) fs (openers-below fields (each (row k).columns) (suc n)))
-    (AllOf-map (λ m. m < count_nodes more + (suc (count_nodes fields) + n)) (λ m. m < last) (λ m h. omega (arith, h)) ms (openers-below more (other_columns columns) (suc (count_nodes fields) + n))))
+    (AllOf_append (λ m. m < last) fs ms
+    (AllOf_weaken (λ m. m < count_nodes fields + suc n) (λ m. m < last) (λ m h. omega (arith, h)) fs (openers-below fields (each (row k).columns) (suc n)))
+    (AllOf_weaken (λ m. m < count_nodes more + (suc (count_nodes fields) + n)) (λ m. m < last) (λ m h. omega (arith, h)) ms (openers-below more (other_columns columns) (suc (count_nodes fields) + n))))
   where
     go : (b : Bool) → Below (suc (count_nodes fields + count_nodes more) + n) (openers fields (each (row k).columns) (suc n) ++ openers more (other_columns columns) (suc (count_nodes fields) + n))
         → Below (suc (count_nodes fields + count_nodes more) + n) (cond b (n ∷ []) [] ++ (openers fields (each (row k).columns) (suc n) ++ openers more (other_columns columns) (suc (count_nodes fields) + n)))
@@ -96,15 +90,7 @@ pub record Fits (whole : List ℕ) (e : Setting) (l : Lineage) : Type 0 where
   pub scope : e.scope ≡ scope_by whole l
   pub var_scope : e.var_scope ≡ var_scope_by whole l
 
-mark-scope : (k : Mark) (fields : Parts) (n : ℕ) (o : List ℕ) (e : Setting) → (with_mark k fields n o e).scope ≡ e.scope
-unfolding all_open
-mark-scope Usual fields n o e = refl
-mark-scope _ fields n o e = refl
 
-mark-var : (k : Mark) (fields : Parts) (n : ℕ) (o : List ℕ) (e : Setting) → (with_mark k fields n o e).var_scope ≡ e.var_scope
-unfolding all_open
-mark-var Usual fields n o e = refl
-mark-var _ fields n o e = refl
 
 mark-bare : (k : Mark) (fields : Parts) (n : ℕ) (o : List ℕ) (e : Setting) → e.bare ≡ false → (with_mark k fields n o e).bare ≡ is_bare k
 unfolding all_open
@@ -121,7 +107,7 @@ field-fits : (f : Column) (whole : List ℕ) (a : Around) (outer inner : Lineage
 unfolding all_open
 field-fits f whole a outer inner p q =
     let s : Fits whole (side f.inside a) (at_side f.inside outer inner) = side-fits f.inside whole a outer inner p q in
-    record { scope = rw (mark-scope f.mark) s.scope; var_scope = rw (mark-var f.mark) s.var_scope }
+    record { scope = rw (mark_keeps_scope f.mark) s.scope; var_scope = rw (mark_keeps_var_scope f.mark) s.var_scope }
 
 field-bare : (f : Column) (a : Around) → (at_field f a).bare ≡ is_bare f.mark
 unfolding all_open
@@ -206,7 +192,7 @@ onto-append f (x ∷ xs) ys w = onto-append f xs ys (f x ∷ w)
 
 Below-append : (n m : ℕ) (xs ys : List ℕ) → n ≤ m → Below n xs → Below m ys → Below m (xs ++ ys)
 unfolding all_open
-Below-append n m xs ys h a b = AllOf-append (λ k. k < m) xs ys (AllOf-map (λ k. k < n) (λ k. k < m) (λ k i. omega (arith, h, i)) xs a) b
+Below-append n m xs ys h a b = AllOf_append (λ k. k < m) xs ys (AllOf_weaken (λ k. k < n) (λ k. k < m) (λ k i. omega (arith, h, i)) xs a) b
 
 own-below : (o : Opens) (bare : Bool) (n : ℕ) → Below (suc n) (own_opener o bare n)
 unfolding all_open
@@ -246,15 +232,15 @@ walked (many items more) columns a s outer inner n whole before after e b f at =
     let is : List ℕ = openers items c n in
     let ms : List ℕ = openers more (other_columns columns) m in
     let s₁ : Seen = walk items c a s in
-    let after₁ : From m (ms ++ after) = AllOf-append (λ k. m ≤ k) ms after (openers-from more (other_columns columns) m)
-    (AllOf-map (λ k. (count_nodes items + count_nodes more) + n ≤ k) (λ k. m ≤ k) (λ k h. omega (arith, h)) after f) in
+    let after₁ : From m (ms ++ after) = AllOf_append (λ k. m ≤ k) ms after (openers-from more (other_columns columns) m)
+    (AllOf_weaken (λ k. (count_nodes items + count_nodes more) + n ≤ k) (λ k. m ≤ k) (λ k h. omega (arith, h)) after f) in
     let one : After whole before m is (lines items c outer inner n) s s₁ =
     walked items c a s outer inner n whole before (ms ++ after) (e ∙ ap (λ xs. before ++ xs) (append_assoc is ms after)) b after₁ at in
     let two : After whole (before ++ is) (count_nodes more + m) ms (lines more (other_columns columns) outer inner m) s₁ (walk more (other_columns columns) a s₁) =
     walked more (other_columns columns) a s₁ outer inner m whole (before ++ is) after
     (e ∙ ap (λ xs. before ++ xs) (append_assoc is ms after) ∙ sym (append_assoc before is (ms ++ after)))
     (Below-append n m before is (omega arith) b (openers-below items c n))
-    (AllOf-map (λ k. (count_nodes items + count_nodes more) + n ≤ k) (λ k. count_nodes more + m ≤ k) (λ k h. omega (arith, h)) after f)
+    (AllOf_weaken (λ k. (count_nodes items + count_nodes more) + n ≤ k) (λ k. count_nodes more + m ≤ k) (λ k h. omega (arith, h)) after f)
     (record { nodes = one.nodes; scopes = one.scopes; outside = at.outside; inside = at.inside }) in
     record {
       nodes = omega (arith, two.nodes);
@@ -284,15 +270,15 @@ walked (child k st en fields more) columns a s outer inner n whole before after 
     let number : scope_number whole n ≡ length s.scopes =
     ap (λ w. scope_number w n) e
     ∙ below-counted n before ((own ++ (fs ++ ms)) ++ after) b
-    (AllOf-append (λ k. n ≤ k) (own ++ (fs ++ ms)) after (openers-from (child k st en fields more) columns n)
-    (AllOf-map (λ k. suc (count_nodes fields + count_nodes more) + n ≤ k) (λ k. n ≤ k) (λ k h. omega (arith, h)) after f))
+    (AllOf_append (λ k. n ≤ k) (own ++ (fs ++ ms)) after (openers-from (child k st en fields more) columns n)
+    (AllOf_weaken (λ k. suc (count_nodes fields + count_nodes more) + n ≤ k) (λ k. n ≤ k) (λ k h. omega (arith, h)) after f))
     ∙ sym at.scopes in
     let e₁ : whole ≡ (before ++ own) ++ (fs ++ (ms ++ after)) = e ∙ regroup before own fs ms after in
     let b₁ : Below (suc n) (before ++ own) = Below-append n (suc n) before own (omega arith) b (own-below o bare n) in
     let after₁ : From (count_nodes fields + suc n) (ms ++ after) =
-    AllOf-append (λ k. count_nodes fields + suc n ≤ k) ms after
-    (AllOf-map (λ k. m ≤ k) (λ k. count_nodes fields + suc n ≤ k) (λ k h. omega (arith, h)) ms (openers-from more (other_columns columns) m))
-    (AllOf-map (λ k. suc (count_nodes fields + count_nodes more) + n ≤ k) (λ k. count_nodes fields + suc n ≤ k) (λ k h. omega (arith, h)) after f) in
+    AllOf_append (λ k. count_nodes fields + suc n ≤ k) ms after
+    (AllOf_weaken (λ k. m ≤ k) (λ k. count_nodes fields + suc n ≤ k) (λ k h. omega (arith, h)) ms (openers-from more (other_columns columns) m))
+    (AllOf_weaken (λ k. suc (count_nodes fields + count_nodes more) + n ≤ k) (λ k. count_nodes fields + suc n ≤ k) (λ k h. omega (arith, h)) after f) in
     let one : After whole (before ++ own) (count_nodes fields + suc n) fs lf s₁ s₂ =
     walked fields c around s₁ outer₁ inner₁ (suc n) whole (before ++ own) (ms ++ after) e₁ b₁ after₁
     (record {
@@ -304,8 +290,8 @@ walked (child k st en fields more) columns a s outer inner n whole before after 
     let two : After whole ((before ++ own) ++ fs) (count_nodes more + m) ms lm s₂ (walk more (other_columns columns) a s₂) =
     walked more (other_columns columns) a s₂ outer inner m whole ((before ++ own) ++ fs) after
     (e₁ ∙ sym (append_assoc (before ++ own) fs (ms ++ after)))
-    (Below-append (suc n) m (before ++ own) fs (omega arith) b₁ (AllOf-map (λ k. k < count_nodes fields + suc n) (λ k. k < m) (λ k h. omega (arith, h)) fs (openers-below fields c (suc n))))
-    (AllOf-map (λ k. suc (count_nodes fields + count_nodes more) + n ≤ k) (λ k. count_nodes more + m ≤ k) (λ k h. omega (arith, h)) after f)
+    (Below-append (suc n) m (before ++ own) fs (omega arith) b₁ (AllOf_weaken (λ k. k < count_nodes fields + suc n) (λ k. k < m) (λ k h. omega (arith, h)) fs (openers-below fields c (suc n))))
+    (AllOf_weaken (λ k. suc (count_nodes fields + count_nodes more) + n ≤ k) (λ k. count_nodes more + m ≤ k) (λ k h. omega (arith, h)) after f)
     (record { nodes = omega (arith, one.nodes); scopes = one.scopes; outside = at.outside; inside = at.inside }) in
     record {
       nodes = omega (arith, two.nodes);
@@ -322,10 +308,6 @@ unfolding all_open
 onto-reverse [] ys = refl
 onto-reverse (x ∷ xs) ys = onto-reverse xs (x ∷ ys) ∙ sym (append_assoc (reverse xs) (x ∷ []) ys) ∙ ap (λ zs. zs ++ ys) (sym (reverse_onto xs x []))
 
-pub map-reverse : {X Y : Type 0} (f : X → Y) (xs : List X) → map f (reverse xs) ≡ reverse (map f xs)
-unfolding all_open
-map-reverse f [] = refl
-map-reverse f (x ∷ xs) = ap (map f) (reverse_onto xs x []) ∙ map-append f (reverse xs) (x ∷ []) ∙ ap (λ ys. ys ++ f x ∷ []) (map-reverse f xs) ∙ sym (reverse_onto (map f xs) (f x) [])
 
 pub scopes_are_nearest : (t : Parts) → map found (sites t) ≡ map (found_by (openers_of t)) (lines_of t)
 unfolding all_open
@@ -336,4 +318,4 @@ scopes_are_nearest t =
     let all₁ : After os [] (count_nodes t + 0) os (lines_of t) nothing_yet (seen t) =
     walked t (all unlisted) before_all nothing_yet [] [] 0 os [] [] (sym (append-nil os)) tt tt
     (record { nodes = refl; scopes = refl; outside = fit; inside = record { scope = refl; var_scope = refl } }) in
-    map-reverse found (seen t).sites ∙ ap reverse (all₁.sites ∙ onto-reverse xs [] ∙ append-nil (reverse xs)) ∙ reverse-reverse xs
+    map_reverse found (seen t).sites ∙ ap reverse (all₁.sites ∙ onto-reverse xs [] ∙ append-nil (reverse xs)) ∙ reverse-reverse xs

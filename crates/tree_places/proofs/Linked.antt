@@ -13,7 +13,7 @@ use Rattle.tree_nodes.specs.declared.table.Opens.{Opens}
 use Rattle.tree_nodes.specs.declared.table.Opens.TheVariants.{BareBlock, Block, ClassMembers, Hoisting, NameHere, Nothing, PrivateNameHere, WithBody}
 use Rattle.tree_places.proofs.Outwards.{same-eq}
 use Rattle.tree_places.proofs.Rooted.{known-outwards}
-use Rattle.tree_places.proofs.Runs.{AllOf, AllOf-push}
+use Rattle.list_laws.proofs.AllOf.{AllOf, AllOf_push}
 use Rattle.tree_places.proofs.Walks.{Proper, known, known-first, known-more}
 use Rattle.tree_places.specs.Open.{all_open}
 use Rattle.tree_places.specs.Places.{Around, Seen, Setting, Site, at_field, before_all, enter, hide, met, nothing_yet, opened, seen, side, sites, strict_in, walk, with_mark}
@@ -151,7 +151,7 @@ class_chains t =
   where
     reversed : (cs : List Scope) (ss : List Site) → Sites cs ss → Sites cs (reverse ss)
     reversed cs [] a = tt
-    reversed cs (s ∷ ss) a = rw (reverse_onto ss s []) (AllOf-push (λ x. known cs x.setting.classes ≡ true) (reverse ss) s (reversed cs ss a.1) a.0)
+    reversed cs (s ∷ ss) a = rw (reverse_onto ss s []) (AllOf_push (λ x. known cs x.setting.classes ≡ true) (reverse ss) s (reversed cs ss a.1) a.0)
 
 -- what is around a class body is the same wherever that is found
 pub one_outside : (cs : List Scope) → Proper cs → (x y : Scope) (c : ℕ) (o r : Scope) → known cs x ≡ true → known cs y ≡ true → is_inside x (c ∷ o) ≡ true → is_inside y (c ∷ r) ≡ true → o ≡ r

@@ -55,15 +55,6 @@ chain (n ∷ ns) a b h k = go (or_cases _ _ h) (or_cases _ _ k) (chain ns a b)
     go (inr e) (inl f) ih = inr (subst (λ (x : Scope). is_inside x a ≡ true) (same-eq (n ∷ ns) b f) h)
     go (inr e) (inr f) ih = ih e f
 
--- where each item of one test passes another
-pub any-mono : {X : Type 0} (p q : X → Bool) → ((x : X) → p x ≡ true → q x ≡ true) → (xs : List X) → list_any p xs ≡ true → list_any q xs ≡ true
-unfolding all_open
-any-mono p q f [] h = h
-any-mono p q f (x ∷ xs) h = go (or_cases _ _ h) (any-mono p q f xs)
-  where
-    go : (p x ≡ true) ⊎ (list_any p xs ≡ true) → (list_any p xs ≡ true → list_any q xs ≡ true) → list_any q (x ∷ xs) ≡ true
-    go (inl e) ih = or_left _ _ (f x e)
-    go (inr e) ih = or_right _ _ (ih e)
 
 pub inside-length : (s r : Scope) → is_inside s r ≡ true → length r ≤ length s
 unfolding all_open

@@ -4,10 +4,11 @@ use Rattle.std.specs.List.{list_any}
 use Rattle.std.proofs.Common.{refl, sym, ◌∙◌, subst, arith, inl, inr}
 use Rattle.std.proofs.lemmas.Bool.{or_cases}
 use Rattle.std.proofs.lemmas.List.{append-nil}
+use Rattle.list_laws.proofs.Mapped.{map_reverse}
 use Rattle.tree_nodes.specs.Along.{all}
 use Rattle.tree_nodes.specs.Table.{unlisted}
 use Rattle.tree_nodes.specs.Tree.{Parts}
-use Rattle.tree_places.proofs.Lineages.{map-reverse, onto, onto-reverse}
+use Rattle.tree_places.proofs.Lineages.{onto, onto-reverse}
 use Rattle.tree_places.proofs.Numbers.{Numbered, one_name_each, walk-numbered}
 use Rattle.tree_places.proofs.Outwards.{same-eq}
 use Rattle.tree_places.proofs.Walks.{Proper, Stepped, walk-good}
@@ -42,7 +43,7 @@ tree-good t = walk-good t (all unlisted) before_all nothing_yet (record { proper
 pub numbers_rise : NumbersRise
 unfolding all_open
 numbers_rise t = (
-  subst (RiseFrom 0) (onto-reverse (map (λ s. s.node) (seen t).sites) [] ∙ append-nil (reverse (map (λ s. s.node) (seen t).sites)) ∙ sym (map-reverse (λ (s : Site). s.node) (seen t).sites))
+  subst (RiseFrom 0) (onto-reverse (map (λ s. s.node) (seen t).sites) [] ∙ append-nil (reverse (map (λ s. s.node) (seen t).sites)) ∙ sym (map_reverse (λ (s : Site). s.node) (seen t).sites))
       (rise-onto (seen t).nodes (seen t).sites [] (walk-numbered t (all unlisted) before_all nothing_yet tt) tt),
   subst (AreNumbered []) (onto-reverse (seen t).scopes [] ∙ append-nil (reverse (seen t).scopes)) (numbered-onto (seen t).scopes [] (tree-good t).proper tt),
   one_name_each t,

@@ -7,7 +7,7 @@ use Rattle.std.proofs.lemmas.Grind.{reverse_onto}
 use Rattle.tree_nodes.specs.Tree.{Parts}
 use Rattle.tree_places.proofs.Outwards.{same-eq, same-refl}
 use Rattle.tree_places.proofs.Rising.{tree-good}
-use Rattle.tree_places.proofs.Runs.{AllOf, AllOf-push}
+use Rattle.list_laws.proofs.AllOf.{AllOf, AllOf_push}
 use Rattle.tree_places.proofs.Walks.{Proper, known}
 use Rattle.tree_places.specs.Open.{all_open}
 use Rattle.tree_places.specs.Places.{Site, scopes, seen, sites}
@@ -91,4 +91,4 @@ scopes_around t = reversed (seen t).sites (each (seen t).sites (tree-good t).pla
 
     reversed : (ss : List Site) → AllOf (Reaches t) ss → AllOf (Reaches t) (reverse ss)
     reversed [] a = tt
-    reversed (s ∷ ss) a = rw (reverse_onto ss s []) (AllOf-push (Reaches t) (reverse ss) s (reversed ss a.1) a.0)
+    reversed (s ∷ ss) a = rw (reverse_onto ss s []) (AllOf_push (Reaches t) (reverse ss) s (reversed ss a.1) a.0)

@@ -19,7 +19,7 @@ use Rattle.tree_nodes.specs.declared.table.Opens.{Opens}
 use Rattle.tree_nodes.specs.declared.table.Opens.TheVariants.{BareBlock, Hoisting, NameHere, Nothing, PrivateNameHere}
 use Rattle.tree_nodes.specs.declared.table.Role.{Role}
 use Rattle.tree_nodes.specs.declared.table.Role.TheVariants.{Plain}
-use Rattle.tree_places.proofs.Runs.{AllOf, AllOf-push}
+use Rattle.list_laws.proofs.AllOf.{AllOf, AllOf_push}
 use Rattle.tree_places.specs.Laws.{IsRooted}
 use Rattle.tree_places.specs.Open.{all_open}
 use Rattle.tree_places.specs.Places.{Around, Seen, Setting, Site, at_field, before_all, enter, hide, met, nothing_yet, opened, seen, side, strict_in, walk, with_mark}
@@ -211,7 +211,7 @@ root-rooted k q b fields r = subst
 reversed : (ss : List Site) → AllRooted ss → AllRooted (reverse ss)
 unfolding all_open
 reversed [] a = tt
-reversed (s ∷ ss) a = rw (reverse_onto ss s []) (AllOf-push (λ x. same_scope x.setting.var_scope [] ≡ false) (reverse ss) s (reversed ss a.1) a.0)
+reversed (s ∷ ss) a = rw (reverse_onto ss s []) (AllOf_push (λ x. same_scope x.setting.var_scope [] ≡ false) (reverse ss) s (reversed ss a.1) a.0)
 
 pub placed_trees_are_rooted : (t : Tree) → is_placed t ≡ true → IsRooted (alone t)
 unfolding all_open

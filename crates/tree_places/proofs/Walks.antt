@@ -3,6 +3,8 @@ use Rattle.std.specs.Prelude.{◌≡◌, ◌⊎◌, ℕ, suc, Bool, true, false,
 use Rattle.std.specs.List.{list_any, list_all}
 use Rattle.std.proofs.Common.{refl, inl, inr}
 use Rattle.std.proofs.lemmas.Bool.{or_cases, or_left, or_right, and_parts, and_from}
+use Rattle.tree_places.proofs.MarkedSettings.{inner_setting, mark_keeps_scope}
+use Rattle.list_laws.proofs.AnyOf.{all_weaken}
 use Rattle.tree_places.specs.Open.{all_open}
 use Rattle.tree_nodes.specs.Along.{Along, all, each, first_column, other_columns}
 use Rattle.tree_places.specs.Scopes.{Scope}
@@ -48,15 +50,7 @@ pub known-first : (ss : List Scope) (n : Scope) → known (n ∷ ss) n ≡ true
 unfolding all_open
 known-first ss n = or_right _ _ (or_left _ _ (same-refl n))
 
-all-mono : {X : Type 0} (p q : X → Bool) → ((x : X) → p x ≡ true → q x ≡ true) → (xs : List X) → list_all p xs ≡ true → list_all q xs ≡ true
-unfolding all_open
-all-mono p q f [] h = refl
-all-mono p q f (x ∷ xs) h = and_from _ _ (f x (and_parts _ _ h).0) (all-mono p q f xs (and_parts _ _ h).1)
 
-mark-scope : (k : Mark) (fields : Parts) (n : ℕ) (o : List ℕ) (e : Setting) → (with_mark k fields n o e).scope ≡ e.scope
-unfolding all_open
-mark-scope Usual fields n o e = refl
-mark-scope _ fields n o e = refl
 
 side-known : (b : Bool) (a : Around) (s : Seen) → Good a s → known s.scopes (side b a).scope ≡ true
 unfolding all_open
@@ -65,7 +59,7 @@ side-known false a s g = g.outside
 
 field-known : (f : Column) (a : Around) (s : Seen) → Good a s → known s.scopes (at_field f a).scope ≡ true
 unfolding all_open
-field-known f a s g = rw (mark-scope f.mark) (side-known f.inside a s g)
+field-known f a s g = rw (mark_keeps_scope f.mark) (side-known f.inside a s g)
 
 -- a node with a scope: the scope is the next one
 next : (s : Seen) (e : Setting) → known s.scopes e.scope ≡ true → Proper s.scopes → Proper ((length s.scopes ∷ e.scope) ∷ s.scopes)
@@ -74,7 +68,7 @@ next s e k p = (e.scope, refl, k, p)
 
 more-placed : (s : Seen) (n : Scope) → list_all (λ x. known s.scopes x.setting.scope) s.sites ≡ true → list_all (λ x. known (n ∷ s.scopes) x.setting.scope) s.sites ≡ true
 unfolding all_open
-more-placed s n h = all-mono (λ x. known s.scopes x.setting.scope) (λ x. known (n ∷ s.scopes) x.setting.scope) (λ x. known-more s.scopes n x.setting.scope) s.sites h
+more-placed s n h = all_weaken (λ x. known s.scopes x.setting.scope) (λ x. known (n ∷ s.scopes) x.setting.scope) (λ x. known-more s.scopes n x.setting.scope) s.sites h
 
 same-step : (s : Seen) → Proper s.scopes → list_all (λ x. known s.scopes x.setting.scope) s.sites ≡ true → Stepped s s
 unfolding all_open
@@ -85,12 +79,9 @@ opened-step : (s : Seen) (e : Setting) → known s.scopes e.scope ≡ true → P
 unfolding all_open
 opened-step s e k p h = record { proper = next s e k p; grows = λ x. known-more s.scopes (length s.scopes ∷ e.scope) x; placed = more-placed s (length s.scopes ∷ e.scope) h }
 
--- what holds inside a node that opens o where e holds, and after the node is met
-abbrev inner : Opens → Setting → Bool → Seen → Setting
-inner o e strict s = opened o (length s.scopes) s.classes (record e { strict = strict })
 
 met-step : (o : Opens) (b : ℕ) (e : Setting) (strict : Bool) (s : Seen) → known s.scopes e.scope ≡ true → Proper s.scopes → list_all (λ x. known s.scopes x.setting.scope) s.sites ≡ true
-    → Stepped s (met o b e (inner o e strict s).scope s) × (known (met o b e (inner o e strict s).scope s).scopes (inner o e strict s).scope ≡ true)
+    → Stepped s (met o b e (inner_setting o e strict s).scope s) × (known (met o b e (inner_setting o e strict s).scope s).scopes (inner_setting o e strict s).scope ≡ true)
 unfolding all_open
 met-step Nothing b e strict s k p h = (record { proper = p; grows = λ x j. j; placed = h }, k)
 met-step Block b e strict s k p h = (opened-step s e k p h, known-first s.scopes (length s.scopes ∷ e.scope))
