@@ -9,11 +9,11 @@ pub map_same : {X Y : Type 0} (f g : X → Y) (xs : List X) → ((x : X) → In 
 map_same f g [] h = refl
 map_same f g (x ∷ xs) h = ap (λ y. y ∷ map f xs) (h x (inl refl)) ∙ ap (λ ys. g x ∷ ys) (map_same f g xs (λ y i. h y (inr i)))
 
-pub first_or : {Y : Type 0} → Y → List Y → Y
+unfoldable pub first_or : {Y : Type 0} → Y → List Y → Y
 first_or y [] = y
 first_or y (z ∷ zs) = z
 
-pub past_first : {Y : Type 0} → List Y → List Y
+unfoldable pub past_first : {Y : Type 0} → List Y → List Y
 past_first [] = []
 past_first (z ∷ zs) = zs
 

@@ -4,7 +4,7 @@ use Rattle.std.specs.Prelude.{suc, zero, true, reverse, Bool, false, cond, filte
 use Rattle.std.proofs.Common.{subst, get_or, arith, inr, sym, length, inl, refl, ◌≡◌, ◌∙◌, ◌<◌, ◌++◌}
 use Rattle.std.proofs.lemmas.Bool.{cases_order}
 use Rattle.std.proofs.lemmas.Grind.{reverse_onto}
-use Rattle.list_laws.proofs.AllOf.{AllOf, AllOf_append, AllOf_filter, AllOf_push, AllOf_reverse, AllOf_weaken, all_by_place, of_each}
+use Rattle.list_laws.proofs.AllOf.{AllOf, AllOf_append, AllOf_filter, AllOf_push, AllOf_reverse, AllOf_weaken, all_by_place, of_each, of_members}
 use Rattle.list_laws.proofs.Members.{In}
 
 -- R holds of each item and each later one
@@ -35,6 +35,9 @@ PairsOf_reverse R (x ∷ xs) p = rw (reverse_onto xs x []) (PairsOf_push R (reve
 pub PairsOf_append : {X : Type 0} (R : X → X → Type 0) (xs ys : List X) → PairsOf R xs → PairsOf R ys → AllOf (λ x. AllOf (R x) ys) xs → PairsOf R (xs ++ ys)
 PairsOf_append R [] ys p q a = q
 PairsOf_append R (x ∷ xs) ys p q a = (AllOf_append (R x) xs ys p.0 a.0, PairsOf_append R xs ys p.1 q a.1)
+
+pub PairsOf_append_members : {X : Type 0} (R : X → X → Type 0) (xs ys : List X) → PairsOf R xs → PairsOf R ys → ((x y : X) → In x xs → In y ys → R x y) → PairsOf R (xs ++ ys)
+PairsOf_append_members R xs ys p q f = PairsOf_append R xs ys p q (of_members (λ x. AllOf (R x) ys) xs (λ x i. of_members (R x) ys (λ y j. f x y i j)))
 
 pub PairsOf_filter : {X : Type 0} (R : X → X → Type 0) (test : X → Bool) (xs : List X) → PairsOf R xs → PairsOf R (filter test xs)
 PairsOf_filter R test [] h = tt

@@ -3,9 +3,11 @@ use Rattle.std.specs.Prelude.{◌≡◌, ◌⊎◌, ℕ, zero, suc, ◌+◌, ◌
 use Rattle.std.specs.List.{list_any}
 use Rattle.std.proofs.Common.{refl, sym, subst, arith, inl, inr}
 use Rattle.std.proofs.lemmas.Bool.{or_cases, or_left, or_right, or_parts, and_parts, and_from, both_ways, eq-eqb, ne_eqb}
+use Rattle.list_laws.proofs.AnyOf.{any_weaken}
+use Rattle.list_laws.proofs.PairsOf.{PairsOf, PairsOf_push}
 use Rattle.name_rules.specs.Open.{all_open}
-use Rattle.tree_places.proofs.Runs.{AllOf, PairsOf, PairsOf-push}
-use Rattle.tree_places.proofs.Outwards.{any-mono, chain, inside-antisym, inside-refl, inside-trans, same-eq}
+use Rattle.list_laws.proofs.AllOf.{AllOf}
+use Rattle.tree_places.proofs.Outwards.{chain, inside-antisym, inside-refl, inside-trans, same-eq}
 use Rattle.name_rules.specs.Groups.{Group, Member, greatest, is_live, reaches}
 use Rattle.tree_places.specs.Scopes.{Scope, is_inside, same_scope}
 use Rattle.name_rules.specs.Slots.{Slotted, least_missing, slot_after, slots_after}
@@ -58,7 +60,7 @@ unfolding all_open
 slots-apart ms before [] p = p
 slots-apart ms before (g ∷ gs) p =
     slots-apart ms (before ++ record { group = g; slot = slot_after ms before g } ∷ []) gs
-    (PairsOf-push (Kept_apart ms) before (record { group = g; slot = slot_after ms before g }) p (slot-apart ms before g))
+    (PairsOf_push (Kept_apart ms) before (record { group = g; slot = slot_after ms before g }) p (slot-apart ms before g))
 
 -- ---- live further out, up to the home
 
@@ -72,7 +74,7 @@ live-outwards ms g s r h i j anti = go (or_cases _ _ h)
     go (inl e) = or_left _ _ (anti e (subst (λ (x : Scope). is_inside r x ≡ true) (sym (same-eq s g.home e)) j))
     go (inr e) =
         let two : (is_inside s g.home ≡ true) × (list_any (reaches g s) ms ≡ true) = and_parts _ _ e in
-        or_right _ _ (and_from _ _ j (any-mono (reaches g s) (reaches g r) up ms two.1))
+        or_right _ _ (and_from _ _ j (any_weaken (reaches g s) (reaches g r) up ms two.1))
       where
         up : (m : Member) → reaches g s m ≡ true → reaches g r m ≡ true
         up m q =

@@ -7,76 +7,27 @@ use Rattle.std.proofs.lemmas.Bool.{or_cases, or_left, both_ways, eqb-true, ne_eq
 use Rattle.std.proofs.lemmas.Map.Steps.{length-le_from_distinct_below}
 use Rattle.std.proofs.lemmas.Map.Made.{length-le_from_is_member}
 use Rattle.std.proofs.lemmas.List.{length-map, map-append, append-nil, append_assoc}
+use Rattle.list_laws.proofs.Counting.{numbers_below}
+use Rattle.name_rules.proofs.Greatest.{greatest_at, greatest_at_most}
+use Rattle.name_rules.proofs.CountFrom.{all_below_listed}
+use Rattle.list_laws.proofs.PairsOf.{PairsOf}
 use Rattle.name_rules.specs.Open.{all_open}
 use Rattle.name_rules.proofs.Apart.{In_order, Kept_apart, never_together, slots-apart}
-use Rattle.tree_places.proofs.Runs.{AllOf, AllOf-push, PairsOf}
+use Rattle.list_laws.proofs.AllOf.{AllOf, AllOf_push}
 use Rattle.name_rules.specs.Groups.{Group, Member, greatest, is_live, width}
 use Rattle.tree_places.specs.Scopes.{Scope, same_scope}
 use Rattle.name_rules.specs.Slots.{Slotted, least_missing, number_of_slots, slot_after, slots, slots_after, slots_live}
 use Rattle.name_rules.specs.GivenNames.{count_from}
 use Rattle.tree_places.proofs.Outwards.{same-eq, same-refl}
 
-apart_all : (x : ℕ) (xs : List ℕ) → AllOf (λ y. x ≡ y → ⊥) xs → AllByRecursion (λ y. eqb x y ≡ false) xs
-unfolding all_open
-apart_all x [] a = tt
-apart_all x (y ∷ ys) a = (ne_eqb x y a.0, apart_all x ys a.1)
 
-pub distinct_from : (xs : List ℕ) → PairsOf (λ x y. x ≡ y → ⊥) xs → IsDistinct eqb xs
-unfolding IsDistinct
-distinct_from [] p = tt
-distinct_from (x ∷ xs) p = (apart_all x xs p.0, distinct_from xs p.1)
 
-below : (n : ℕ) (xs : List ℕ) → AllOf (λ x. x < n) xs → (q : ℕ) → list_any (eqb q) xs ≡ true → q < n
-unfolding all_open
-below n [] a q h = absurd (both_ways _ refl h)
-below n (x ∷ xs) a q h = go (or_cases _ _ h) (below n xs a.1 q)
-  where
-    go : (eqb q x ≡ true) ⊎ (list_any (eqb q) xs ≡ true) → (list_any (eqb q) xs ≡ true → q < n) → q < n
-    go (inl e) ih = rw (eqb-true q x e) a.0
-    go (inr e) ih = ih e
 
--- different numbers below n are at most n
-at_most : (n : ℕ) (xs : List ℕ) → PairsOf (λ x y. x ≡ y → ⊥) xs → AllOf (λ x. x < n) xs → length xs ≤ n
-unfolding all_open
-at_most n xs p a = length-le_from_distinct_below xs n (distinct_from xs p) (below n xs a)
 
-count-above : (n k : ℕ) → AllOf (λ y. k ≤ y) (count_from n k)
-unfolding all_open
-count-above zero k = tt
-count-above (suc n) k = (omega arith, weaken (count_from n (suc k)) (count-above n (suc k)))
-  where
-    weaken : (xs : List ℕ) → AllOf (λ y. suc k ≤ y) xs → AllOf (λ y. k ≤ y) xs
-    weaken [] a = tt
-    weaken (x ∷ xs) a = (let i : suc k ≤ x = a.0 in omega arith, weaken xs a.1)
 
-pub count-apart : (n k : ℕ) → PairsOf (λ x y. x ≡ y → ⊥) (count_from n k)
-unfolding all_open
-count-apart zero k = tt
-count-apart (suc n) k = (other (count_from n (suc k)) (count-above n (suc k)), count-apart n (suc k))
-  where
-    other : (xs : List ℕ) → AllOf (λ y. suc k ≤ y) xs → AllOf (λ y. k ≡ y → ⊥) xs
-    other [] a = tt
-    other (x ∷ xs) a = ((λ e. let i : suc k ≤ x = a.0 in omega arith), other xs a.1)
 
-pub count-length : (n k : ℕ) → length (count_from n k) ≡ n
-unfolding all_open
-count-length zero k = refl
-count-length (suc n) k = ap suc (count-length n (suc k))
 
-count-below : (n k q : ℕ) → list_any (eqb q) (count_from n k) ≡ true → q < n + k
-unfolding all_open
-count-below zero k q h = absurd (both_ways _ refl h)
-count-below (suc n) k q h = go (or_cases _ _ h) (count-below n (suc k) q)
-  where
-    go : (eqb q k ≡ true) ⊎ (list_any (eqb q) (count_from n (suc k)) ≡ true) → (list_any (eqb q) (count_from n (suc k)) ≡ true → q < n + suc k) → q < suc n + k
-    go (inl e) ih = let i : q ≡ k = eqb-true q k e in omega arith
-    go (inr e) ih = let i : q < n + suc k = ih e in omega arith
 
--- a list with all numbers below n has n items
-at_least : (n : ℕ) (ns : List ℕ) → ((j : ℕ) → j < n → list_any (eqb j) ns ≡ true) → n ≤ length ns
-unfolding all_open
-at_least n ns h = subst (λ (m : ℕ). m ≤ length ns) (count-length n 0)
-    (length-le_from_is_member nat_eq_equiv (count_from n 0) ns (distinct_from (count_from n 0) (count-apart n 0)) (λ q m. h q (let i : q < n + 0 = count-below n 0 q m in omega arith)))
 
 -- all numbers below the least missing one are listed
 pub below-missing : (fuel : ℕ) (ns : List ℕ) (k j : ℕ) → k ≤ j → j < least_missing fuel ns k → list_any (eqb j) ns ≡ true
@@ -135,7 +86,7 @@ live-below ms s (b ∷ bs) n h = go (live_in ms s b) (live-below ms s bs n (omeg
 -- no scope has more live groups than there are slots
 width-at_most : (ms : List Member) (bs : List Slotted) (s : Scope) → PairsOf (Ordered_apart ms) bs → how_many ms bs s ≤ number_of_slots bs
 unfolding all_open
-width-at_most ms bs s p = subst (λ (m : ℕ). m ≤ number_of_slots bs) (length-map (filter (live_in ms s) bs) (λ b. b.slot)) (at_most (number_of_slots bs) (slots_live ms bs s) (live-apart ms s bs p) (live-below ms s bs (number_of_slots bs) (omega arith)))
+width-at_most ms bs s p = subst (λ (m : ℕ). m ≤ number_of_slots bs) (length-map (filter (live_in ms s) bs) (λ b. b.slot)) (numbers_below (number_of_slots bs) (slots_live ms bs s) (live-apart ms s bs p) (live-below ms s bs (number_of_slots bs) (omega arith)))
 
 -- ---- each slot is needed in its group's home
 
@@ -164,7 +115,7 @@ new-needed : (ms : List Member) (bs : List Slotted) (g : Group) → Needed ms (b
 unfolding all_open
 new-needed ms bs g =
     let live : List ℕ = slots_live ms bs g.home in
-    let k : slot_after ms bs g ≤ length live = at_least (slot_after ms bs g) live (λ j h. below-missing (suc (greatest live)) live 0 j (omega arith) h) in
+    let k : slot_after ms bs g ≤ length live = all_below_listed (slot_after ms bs g) live (λ j h. below-missing (suc (greatest live)) live 0 j (omega arith) h) in
     let at : is_live ms g.home g ≡ true = or_left _ _ (same-refl g.home) in
     rw (filter-push (live_in ms g.home) bs (record { group = g; slot = slot_after ms bs g }), at, ← length-map (filter (live_in ms g.home) bs) (λ b. b.slot)) (omega arith)
 
@@ -173,7 +124,7 @@ unfolding all_open
 slots-needed ms bs [] a = a
 slots-needed ms bs (g ∷ gs) a =
     let c : Slotted = record { group = g; slot = slot_after ms bs g } in
-    slots-needed ms (bs ++ c ∷ []) gs (AllOf-push (Needed ms (bs ++ c ∷ [])) bs c (still-needed ms bs c bs a) (new-needed ms bs g))
+    slots-needed ms (bs ++ c ∷ []) gs (AllOf_push (Needed ms (bs ++ c ∷ [])) bs c (still-needed ms bs c bs a) (new-needed ms bs g))
 
 -- ---- both together
 
@@ -204,19 +155,7 @@ unfolding all_open
 join_pairs ms [] k o = tt
 join_pairs ms (b ∷ bs) k o = (join_all ms b bs k.0 o.0, join_pairs ms bs k.1 o.1)
 
-greatest-at_most : (f : Scope → ℕ) (ss : List Scope) (n : ℕ) → ((s : Scope) → f s ≤ n) → greatest (map f ss) ≤ n
-unfolding all_open
-greatest-at_most f [] n h = omega arith
-greatest-at_most f (s ∷ ss) n h = let i : f s ≤ n = h s in let j : greatest (map f ss) ≤ n = greatest-at_most f ss n h in omega arith
 
-greatest-at : (f : Scope → ℕ) (ss : List Scope) (s : Scope) → list_any (same_scope s) ss ≡ true → f s ≤ greatest (map f ss)
-unfolding all_open
-greatest-at f [] s h = absurd (both_ways _ refl h)
-greatest-at f (r ∷ rs) s h = go (or_cases _ _ h) (greatest-at f rs s)
-  where
-    go : (same_scope s r ≡ true) ⊎ (list_any (same_scope s) rs ≡ true) → (list_any (same_scope s) rs ≡ true → f s ≤ greatest (map f rs)) → f s ≤ max (f r) (greatest (map f rs))
-    go (inl e) ih = subst (λ (x : Scope). f s ≤ max (f x) (greatest (map f rs))) (same-eq s r e) (omega arith)
-    go (inr e) ih = let i : f s ≤ greatest (map f rs) = ih e in omega arith
 
 slots-at_most : (ms : List Member) (whole bs : List Slotted) (ss : List Scope) → AllOf (Needed ms whole) bs → AllOf (λ g. list_any (same_scope g.home) ss ≡ true) (map (λ b. b.group) bs)
     → number_of_slots bs ≤ greatest (map (how_many ms whole) ss)
@@ -224,7 +163,7 @@ unfolding all_open
 slots-at_most ms whole [] ss a h = omega arith
 slots-at_most ms whole (b ∷ bs) ss a h =
     let i : suc b.slot ≤ how_many ms whole b.group.home = a.0 in
-    let j : how_many ms whole b.group.home ≤ greatest (map (how_many ms whole) ss) = greatest-at (how_many ms whole) ss b.group.home h.0 in
+    let j : how_many ms whole b.group.home ≤ greatest (map (how_many ms whole) ss) = greatest_at (how_many ms whole) ss b.group.home h.0 in
     let r : number_of_slots bs ≤ greatest (map (how_many ms whole) ss) = slots-at_most ms whole bs ss a.1 h.1 in
     omega arith
 
@@ -266,5 +205,5 @@ slots-fewest ms gs ss o h =
     let same : map (λ b. b.group) bs ≡ gs = slotted-groups ms [] gs in
     let pairs : PairsOf (Ordered_apart ms) bs = pairs-apart ms gs o in
     let down : number_of_slots bs ≤ greatest (map (how_many ms bs) ss) = slots-at_most ms bs bs ss (slots-needed ms [] gs tt) (subst (AllOf (λ g. list_any (same_scope g.home) ss ≡ true)) (sym same) h) in
-    let up : greatest (map (how_many ms bs) ss) ≤ number_of_slots bs = greatest-at_most (how_many ms bs) ss (number_of_slots bs) (λ s. width-at_most ms bs s pairs) in
+    let up : greatest (map (how_many ms bs) ss) ≤ number_of_slots bs = greatest_at_most (how_many ms bs) ss (number_of_slots bs) (λ s. width-at_most ms bs s pairs) in
     rw (same-widths ms gs ss) (omega arith)

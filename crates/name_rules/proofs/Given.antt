@@ -4,10 +4,17 @@ use Rattle.std.specs.List.{Contains, list_any}
 use Rattle.std.proofs.Common.{refl, sym, ap, ◌∙◌, subst, arith, inl, inr}
 use Rattle.std.proofs.lemmas.Bool.{or_cases, or_left, or_right, and_parts, and_from, both_ways, eq-eqb, eqb-true}
 use Rattle.std.proofs.lemmas.Slice.Eq.{bytes_eq-Decides}
+use Rattle.std.proofs.lemmas.Simd.{map-map}
+use Rattle.scope_rules.proofs.SameNames.{same_name_tells}
+use Rattle.list_laws.proofs.PairsOf.{one_or_paired}
+use Rattle.scope_rules.proofs.PlacesRise.{named_site, one_of_number, places_rise}
+use Rattle.list_laws.proofs.Tests.{none_some, some_one, told}
+use Rattle.list_laws.proofs.AnyOf.{any_from, any_some}
+use Rattle.list_laws.proofs.FirstOf.{First, find_first, find_none}
 use Rattle.name_rules.proofs.Apart.{never_together}
 use Rattle.name_rules.proofs.Fewest.{Ordered_apart, pairs-apart, slotted-groups}
 use Rattle.name_rules.proofs.Order.{groups_in_order}
-use Rattle.name_rules.proofs.Runs.{of-each}
+use Rattle.list_laws.proofs.AllOf.{of_each}
 use Rattle.name_rules.specs.FreeNames.{is_taken, is_unchanged}
 use Rattle.name_rules.specs.Groups.{Group, Member, group_at, group_led_by, group_of, groups, groups_of, is_live, leads, members, reaches}
 use Rattle.name_rules.specs.Kept.{has_number, is_kept, kept_alone}
@@ -20,87 +27,24 @@ use Rattle.tree_places.proofs.Homed.{var_scopes_lie_outside}
 use Rattle.tree_places.proofs.Outwards.{inside-refl, same-eq, same-refl}
 use Rattle.tree_places.proofs.Rising.{numbers_rise}
 use Rattle.tree_places.proofs.Rooted.{scopes_around}
-use Rattle.tree_places.proofs.Runs.{PairsOf}
 use Rattle.tree_places.specs.Laws.{IsRooted, RiseFrom}
 use Rattle.tree_places.specs.Places.{Named, Place, Site, named_by, names, places, scopes, sites, withs}
 use Rattle.tree_places.specs.Scopes.{Scope, is_inside, same_scope}
-use Rattle.scope_rules.proofs.Lists.{First, In, any-from, any-some, find-first, find-none, in_from_Contains, map-map, none_some, some_one, told}
-use Rattle.scope_rules.proofs.Stay.{At, binding_source, first_own, one_place, plainly, unbound_nothing}
+use Rattle.list_laws.proofs.Members.{In, in_from_Contains, from_append, from_filter, from_map, in_filter, in_left, in_map, in_right}
+use Rattle.scope_rules.proofs.Stay.{At, binding_source, first_own, plainly, unbound_nothing}
 use Rattle.scope_rules.specs.Bindings.{Bound, binding, bound, declares_at, is_binding, is_node, node, node_of, plain_binder, same_name, shadower}
 use Rattle.scope_rules.specs.Homes.{declares, declares_plainly, home, is_var, names_function, refers}
 use Rattle.scope_rules.specs.Renamings.{IsBindingOf, KeepsApart, TellsSame, is_bound_inside, is_live_in}
 
 -- ---- lists
 
-pub in-map : {X Y : Type 0} (f : X → Y) (xs : List X) (x : X) → In x xs → In (f x) (map f xs)
-in-map f [] x i = i
-in-map {X} {Y} f (z ∷ zs) x i = go i (in-map f zs x)
-  where
-    go : (z ≡ x) ⊎ In x zs → (In x zs → In (f x) (map f zs)) → (f z ≡ f x) ⊎ In (f x) (map f zs)
-    go (inl e) ih = inl (ap f e)
-    go (inr j) ih = inr (ih j)
 
-pub from-map : {X Y : Type 0} (f : X → Y) (xs : List X) (y : Y) → In y (map f xs) → (x : X) × In x xs × (f x ≡ y)
-from-map f [] y i = absurd i
-from-map {X} {Y} f (z ∷ zs) y i = go i (from-map f zs y)
-  where
-    go : (f z ≡ y) ⊎ In y (map f zs) → (In y (map f zs) → (x : X) × In x zs × (f x ≡ y)) → (x : X) × In x (z ∷ zs) × (f x ≡ y)
-    go (inl e) ih = (z, inl refl, e)
-    go (inr j) ih = let r : (x : X) × In x zs × (f x ≡ y) = ih j in (r.0, inr r.1, r.2)
 
-pub in-filter : {X : Type 0} (test : X → Bool) (xs : List X) (x : X) → In x xs → test x ≡ true → In x (filter test xs)
-in-filter test [] x i h = i
-in-filter {X} test (z ∷ zs) x i h = go (test z) refl i (in-filter test zs x)
-  where
-    go : (b : Bool) → test z ≡ b → (z ≡ x) ⊎ In x zs → (In x zs → test x ≡ true → In x (filter test zs)) → In x (cond b (z ∷ filter test zs) (filter test zs))
-    go true q (inl e) ih = inl e
-    go true q (inr j) ih = inr (ih j h)
-    go false q (inl e) ih = absurd (both_ways _ q (subst (λ y. test y ≡ true) (sym e) h))
-    go false q (inr j) ih = ih j h
 
-pub from-filter : {X : Type 0} (test : X → Bool) (xs : List X) (x : X) → In x (filter test xs) → In x xs × (test x ≡ true)
-from-filter test [] x i = absurd i
-from-filter {X} test (z ∷ zs) x i = go (test z) refl i (from-filter test zs x)
-  where
-    go : (b : Bool) → test z ≡ b → In x (cond b (z ∷ filter test zs) (filter test zs)) → (In x (filter test zs) → In x zs × (test x ≡ true)) → In x (z ∷ zs) × (test x ≡ true)
-    go true q (inl e) ih = (inl e, subst (λ y. test y ≡ true) e q)
-    go true q (inr j) ih = let r : In x zs × (test x ≡ true) = ih j in (inr r.0, r.1)
-    go false q j ih = let r : In x zs × (test x ≡ true) = ih j in (inr r.0, r.1)
 
-pub in-left : {X : Type 0} (xs ys : List X) (x : X) → In x xs → In x (xs ++ ys)
-in-left [] ys x i = absurd i
-in-left {X} (z ∷ zs) ys x i = go i (in-left zs ys x)
-  where
-    go : (z ≡ x) ⊎ In x zs → (In x zs → In x (zs ++ ys)) → (z ≡ x) ⊎ In x (zs ++ ys)
-    go (inl e) ih = inl e
-    go (inr j) ih = inr (ih j)
 
-pub in-right : {X : Type 0} (xs ys : List X) (x : X) → In x ys → In x (xs ++ ys)
-in-right [] ys x i = i
-in-right (z ∷ zs) ys x i = inr (in-right zs ys x i)
 
-pub from-append : {X : Type 0} (xs ys : List X) (x : X) → In x (xs ++ ys) → In x xs ⊎ In x ys
-from-append [] ys x i = inr i
-from-append {X} (z ∷ zs) ys x i = go i (from-append zs ys x)
-  where
-    go : (z ≡ x) ⊎ In x (zs ++ ys) → (In x (zs ++ ys) → In x zs ⊎ In x ys) → In x (z ∷ zs) ⊎ In x ys
-    go (inl e) ih = inl (inl e)
-    go (inr j) ih = at (ih j)
-      where
-        at : In x zs ⊎ In x ys → In x (z ∷ zs) ⊎ In x ys
-        at (inl k) = inl (inr k)
-        at (inr k) = inr k
 
--- two of a list of pairs are one, or stand one after the other
-two-of : {X : Type 0} (R : X → X → Type 0) (xs : List X) (x y : X) → PairsOf R xs → In x xs → In y xs → (x ≡ y) ⊎ (R x y ⊎ R y x)
-two-of R [] x y p i j = absurd i
-two-of {X} R (z ∷ zs) x y p i j = go i j (two-of R zs x y p.1)
-  where
-    go : (z ≡ x) ⊎ In x zs → (z ≡ y) ⊎ In y zs → (In x zs → In y zs → (x ≡ y) ⊎ (R x y ⊎ R y x)) → (x ≡ y) ⊎ (R x y ⊎ R y x)
-    go (inl a) (inl b) ih = inl (sym a ∙ b)
-    go (inl a) (inr b) ih = inr (inl (subst (λ w. R w y) a (of-each (R z) zs y p.0 b)))
-    go (inr a) (inl b) ih = inr (inr (subst (λ w. R w x) b (of-each (R z) zs x p.0 a)))
-    go (inr a) (inr b) ih = ih a b
 
 greatest-in : (bs : List Slotted) (d : Slotted) → In d bs → d.slot < number_of_slots bs
 unfolding all_open
@@ -111,45 +55,18 @@ greatest-in (b ∷ bs) d i = go i (greatest-in bs d)
     go (inl e) ih = let q : b.slot ≡ d.slot = ap (λ (x : Slotted). x.slot) e in omega (arith, q)
     go (inr j) ih = let q : d.slot < number_of_slots bs = ih j in omega (arith, q)
 
-pub tells : TellsSame same_name
-unfolding all_open
-tells x y = bytes_eq-Decides x y
 
 -- ---- places of a tree
 
-named-nodes : {N : Type 0} (ss : List Site) (xs : List N) → length xs ≡ length ss → map node (named_by ss xs) ≡ map (λ s. s.node) ss
-unfolding all_open
-named-nodes [] [] h = refl
-named-nodes [] (x ∷ xs) h = refl
-named-nodes (s ∷ ss) [] h = absurd (omega (arith, h))
-named-nodes (s ∷ ss) (x ∷ xs) h = ap (λ ns. s.node ∷ ns) (named-nodes ss xs (omega (arith, h)))
 
-pub named-site : {N : Type 0} (ss : List Site) (xs : List N) (p : Named N) → In p (named_by ss xs) → In p.site ss
-unfolding all_open
-named-site {N} [] xs p i = absurd (none xs i)
-  where
-    none : (ys : List N) → In p (named_by [] ys) → ⊥
-    none [] j = j
-    none (y ∷ ys) j = j
-named-site (s ∷ ss) [] p i = absurd i
-named-site {N} (s ∷ ss) (x ∷ xs) p i = go i (named-site ss xs p)
-  where
-    go : (record { site = s; name = x } ≡ p) ⊎ In p (named_by ss xs) → (In p (named_by ss xs) → In p.site ss) → In p.site (s ∷ ss)
-    go (inl e) ih = inl (ap (λ (q : Named N). q.site) e)
-    go (inr j) ih = inr (ih j)
 
-pub places_rise : (t : Parts) → RiseFrom 0 (map node (places t))
-unfolding all_open
-places_rise t = subst (RiseFrom 0) (sym (named-nodes (sites t) (names t) (numbers_rise t).2)) (numbers_rise t).0
 
-pub one_of : (t : Parts) (p q : Place) → In p (places t) → In q (places t) → node p ≡ node q → p ≡ q
-one_of t p q i j e = one_place 0 (places t) p q (places_rise t) i j e
 
 home_rooted : (t : Parts) → IsRooted t → (p : Place) → In p (places t) → home p.site ≡ [] → ⊥
 unfolding all_open
 home_rooted t root p i e =
-    let v : same_scope p.site.setting.var_scope [] ≡ false = of-each (λ s. same_scope s.setting.var_scope [] ≡ false) (sites t) p.site root (named-site (sites t) (names t) p i) in
-    let w : is_inside p.site.setting.scope p.site.setting.var_scope ≡ true = of-each (λ s. is_inside s.setting.scope s.setting.var_scope ≡ true) (sites t) p.site (var_scopes_lie_outside t) (named-site (sites t) (names t) p i) in
+    let v : same_scope p.site.setting.var_scope [] ≡ false = of_each (λ s. same_scope s.setting.var_scope [] ≡ false) (sites t) p.site root (named_site (sites t) (names t) p i) in
+    let w : is_inside p.site.setting.scope p.site.setting.var_scope ≡ true = of_each (λ s. is_inside s.setting.scope s.setting.var_scope ≡ true) (sites t) p.site (var_scopes_lie_outside t) (named_site (sites t) (names t) p i) in
     go (is_var p.site.setting.role) e v w
   where
     go : (b : Bool) → cond b p.site.setting.var_scope p.site.setting.scope ≡ [] → same_scope p.site.setting.var_scope [] ≡ false → is_inside p.site.setting.scope p.site.setting.var_scope ≡ true → ⊥
@@ -158,7 +75,7 @@ home_rooted t root p i e =
 
 pub home_inside : (t : Parts) (p : Place) → In p (places t) → is_inside p.site.setting.scope (home p.site) ≡ true
 unfolding all_open
-home_inside t p i = go (is_var p.site.setting.role) (of-each (λ s. is_inside s.setting.scope s.setting.var_scope ≡ true) (sites t) p.site (var_scopes_lie_outside t) (named-site (sites t) (names t) p i))
+home_inside t p i = go (is_var p.site.setting.role) (of_each (λ s. is_inside s.setting.scope s.setting.var_scope ≡ true) (sites t) p.site (var_scopes_lie_outside t) (named_site (sites t) (names t) p i))
   where
     go : (b : Bool) → is_inside p.site.setting.scope p.site.setting.var_scope ≡ true → is_inside p.site.setting.scope (cond b p.site.setting.var_scope p.site.setting.scope) ≡ true
     go true w = w
@@ -167,7 +84,7 @@ home_inside t p i = go (is_var p.site.setting.role) (of-each (λ s. is_inside s.
 home_among : (t : Parts) → IsRooted t → (p : Place) → In p (places t) → list_any (same_scope (home p.site)) (scopes t) ≡ true
 unfolding all_open
 home_among t root p i =
-    of-each (λ s. (y : Scope) → is_inside s.setting.scope y ≡ true → (y ≡ [] → ⊥) → list_any (same_scope y) (scopes t) ≡ true) (sites t) p.site (scopes_around t) (named-site (sites t) (names t) p i)
+    of_each (λ s. (y : Scope) → is_inside s.setting.scope y ≡ true → (y ≡ [] → ⊥) → list_any (same_scope y) (scopes t) ≡ true) (sites t) p.site (scopes_around t) (named_site (sites t) (names t) p i)
     (home p.site) (home_inside t p i) (home_rooted t root p i)
 
 -- ---- the groups of bindings
@@ -191,23 +108,23 @@ module _ (o : Options) (t : Parts) where
 
   pub members-at : members o t ≡ map member_at (places t)
   unfolding all_open member_at
-  members-at = map-map (λ (p : Place). record { place = p; binding = binding same_name (places t) p }) (λ (b : Bound Text). record { place = b.place; binding = b.binding; group = group_at kept ps bs b.binding }) (places t)
+  members-at = map-map (λ (b : Bound Text). record { place = b.place; binding = b.binding; group = group_at kept ps bs b.binding }) (λ (p : Place). record { place = p; binding = binding same_name (places t) p }) (places t)
 
   pub in-members : (p : Place) → In p (places t) → In (member_at p) (members o t)
-  in-members p i = subst (In (member_at p)) (sym members-at) (in-map member_at (places t) p i)
+  in-members p i = subst (In (member_at p)) (sym members-at) (in_map member_at (places t) p i)
 
   -- a binding's own record is what is found by its number
   found_own : (b : Place) → Binding b → find (λ c. is_binding c && nat_eq (node c.place) (node b)) bs ≡ Some (record { place = b; binding = binding same_name (places t) b })
   unfolding all_open
   found_own b ib = told (find (λ c. is_binding c && nat_eq (node c.place) (node b)) bs)
-      (λ none. absurd (find-none (λ c. is_binding c && nat_eq (node c.place) (node b)) bs (record { place = b; binding = binding same_name (places t) b }) none
-      (in-map (λ (p : Place). record { place = p; binding = binding same_name (places t) p }) (places t) b (in_from_Contains (places t) b ib.among))
+      (λ none. absurd (find_none (λ c. is_binding c && nat_eq (node c.place) (node b)) bs (record { place = b; binding = binding same_name (places t) b }) none
+      (in_map (λ (p : Place). record { place = p; binding = binding same_name (places t) p }) (places t) b (in_from_Contains (places t) b ib.among))
       (and_from _ _ (and_from _ _ ib.declares (ap (λ q. is_node q (node b)) ib.own ∙ eq-eqb (node b) (node b) refl)) (eq-eqb (node b) (node b) refl))))
       (λ c f.
-      let g : First (λ c. is_binding c && nat_eq (node c.place) (node b)) bs c = find-first (λ c. is_binding c && nat_eq (node c.place) (node b)) bs c f in
-      let w : (p : Place) × In p (places t) × (record { place = p; binding = binding same_name (places t) p } ≡ c) = from-map (λ (p : Place). record { place = p; binding = binding same_name (places t) p }) (places t) c g.among in
+      let g : First (λ c. is_binding c && nat_eq (node c.place) (node b)) bs c = find_first (λ c. is_binding c && nat_eq (node c.place) (node b)) bs c f in
+      let w : (p : Place) × In p (places t) × (record { place = p; binding = binding same_name (places t) p } ≡ c) = from_map (λ (p : Place). record { place = p; binding = binding same_name (places t) p }) (places t) c g.among in
       let n : node w.0 ≡ node b = ap (λ (x : Bound Text). node x.place) w.2 ∙ eqb-true (node c.place) (node b) (and_parts _ _ g.passes).1 in
-      let e : w.0 ≡ b = one_of t w.0 b w.1 (in_from_Contains (places t) b ib.among) n in
+      let e : w.0 ≡ b = one_of_number t w.0 b w.1 (in_from_Contains (places t) b ib.among) n in
       f ∙ ap Some (sym w.2 ∙ ap (λ (p : Place). record { place = p; binding = binding same_name (places t) p }) e))
 
   pub group_own : (b : Place) → Binding b → group_in o t b ≡ group_of kept (node b) (shadower same_name (places t) b)
@@ -252,7 +169,7 @@ module _ (o : Options) (t : Parts) where
       told (find (declares_at same_name b.name (home b.site)) (places t))
       (λ none. absurd (none_some l (sym (ap node_of none) ∙ f)))
       (λ c fc.
-      let own : IsBindingOf same_name (places t) c × (declares_plainly c.site ≡ true) × At same_name tells (places t) b.name (home b.site) c = first_own same_name tells (places t) b.name (home b.site) c fc in
+      let own : IsBindingOf same_name (places t) c × (declares_plainly c.site ≡ true) × At same_name same_name_tells (places t) b.name (home b.site) c = first_own same_name same_name_tells (places t) b.name (home b.site) c fc in
       let n : node c ≡ l = some_one (node c) l (sym (ap node_of fc) ∙ f) in
       let alone : shadower same_name (places t) c ≡ None = ap (λ x. cond x (plain_binder same_name (places t) c.name (home c.site)) None) (plainly c.site own.1).1 in
       let unkept : has_number kept (Some (node c)) ≡ false = subst (λ (m : ℕ). has_number kept (Some m) ≡ false) (sym n) (or_false (has_number kept (Some (node b))) (has_number kept (Some l)) k.0) in (
@@ -285,19 +202,19 @@ module _ (o : Options) (t : Parts) where
 
       go : (same_scope (home m.place.site) s ≡ true) ⊎ (list_any (same_scope (home m.place.site)) ss ≡ true)
           → (list_any (same_scope (home m.place.site)) ss ≡ true → In (group_led_by m) (groups ss ms)) → In (group_led_by m) (map group_led_by (filter (λ n. same_scope (home n.place.site) s) (filter leads ms)) ++ groups ss ms)
-      go (inl e) ih = in-left (map group_led_by (filter (λ n. same_scope (home n.place.site) s) (filter leads ms))) (groups ss ms) (group_led_by m)
-          (in-map group_led_by (filter (λ n. same_scope (home n.place.site) s) (filter leads ms)) m (in-filter (λ n. same_scope (home n.place.site) s) (filter leads ms) m (in-filter leads ms m i l) e))
-      go (inr e) ih = in-right (map group_led_by (filter (λ n. same_scope (home n.place.site) s) (filter leads ms))) (groups ss ms) (group_led_by m) (ih e)
+      go (inl e) ih = in_left (map group_led_by (filter (λ n. same_scope (home n.place.site) s) (filter leads ms))) (groups ss ms) (group_led_by m)
+          (in_map group_led_by (filter (λ n. same_scope (home n.place.site) s) (filter leads ms)) m (in_filter (λ n. same_scope (home n.place.site) s) (filter leads ms) m (in_filter leads ms m i l) e))
+      go (inr e) ih = in_right (map group_led_by (filter (λ n. same_scope (home n.place.site) s) (filter leads ms))) (groups ss ms) (group_led_by m) (ih e)
 
   pub from-groups : (ss : List Scope) (ms : List Member) (g : Group) → In g (groups ss ms) → (m : Member) × In m ms × (group_led_by m ≡ g)
   unfolding all_open
   from-groups [] ms g i = absurd i
-  from-groups (s ∷ ss) ms g i = go (from-append (map group_led_by (filter (λ n. same_scope (home n.place.site) s) (filter leads ms))) (groups ss ms) g i) (from-groups ss ms g)
+  from-groups (s ∷ ss) ms g i = go (from_append (map group_led_by (filter (λ n. same_scope (home n.place.site) s) (filter leads ms))) (groups ss ms) g i) (from-groups ss ms g)
     where
       go : In g (map group_led_by (filter (λ n. same_scope (home n.place.site) s) (filter leads ms))) ⊎ In g (groups ss ms) → (In g (groups ss ms) → (m : Member) × In m ms × (group_led_by m ≡ g)) → (m : Member) × In m ms × (group_led_by m ≡ g)
       go (inl j) ih =
-          let w : (m : Member) × In m (filter (λ n. same_scope (home n.place.site) s) (filter leads ms)) × (group_led_by m ≡ g) = from-map group_led_by (filter (λ n. same_scope (home n.place.site) s) (filter leads ms)) g j in
-          (w.0, (from-filter leads ms w.0 (from-filter (λ n. same_scope (home n.place.site) s) (filter leads ms) w.0 w.1).0).0, w.2)
+          let w : (m : Member) × In m (filter (λ n. same_scope (home n.place.site) s) (filter leads ms)) × (group_led_by m ≡ g) = from_map group_led_by (filter (λ n. same_scope (home n.place.site) s) (filter leads ms)) g j in
+          (w.0, (from_filter leads ms w.0 (from_filter (λ n. same_scope (home n.place.site) s) (filter leads ms) w.0 w.1).0).0, w.2)
       go (inr j) ih = ih j
 
   -- the slot of a group, with the binding that leads it
@@ -316,17 +233,17 @@ module _ (o : Options) (t : Parts) where
       (ap (λ q. is_node q (node c.0)) c.1.leading ∙ eq-eqb g (node c.0) (sym c.1.number)) in
       let i : In (group_here c.0) (groups_of o t) = in-groups (scopes t) (members o t) (member_at c.0) (in-members c.0 ic) lead (home_among t root c.0 ic) in
       let same : map (λ d. d.group) (slots_of o t) ≡ groups_of o t = slotted-groups (members o t) [] (groups_of o t) in
-      let w : (d : Slotted) × In d (slots_of o t) × (d.group ≡ group_here c.0) = from-map (λ d. d.group) (slots_of o t) (group_here c.0) (subst (In (group_here c.0)) (sym same) i) in
+      let w : (d : Slotted) × In d (slots_of o t) × (d.group ≡ group_here c.0) = from_map (λ d. d.group) (slots_of o t) (group_here c.0) (subst (In (group_here c.0)) (sym same) i) in
       told (find (λ d. nat_eq d.group.leader g) (slots_of o t))
-      (λ none. absurd (find-none (λ d. nat_eq d.group.leader g) (slots_of o t) w.0 none w.1 (eq-eqb w.0.group.leader g (ap (λ (x : Group). x.leader) w.2 ∙ c.1.number))))
+      (λ none. absurd (find_none (λ d. nat_eq d.group.leader g) (slots_of o t) w.0 none w.1 (eq-eqb w.0.group.leader g (ap (λ (x : Group). x.leader) w.2 ∙ c.1.number))))
       (λ d f.
-      let h : First (λ d. nat_eq d.group.leader g) (slots_of o t) d = find-first (λ d. nat_eq d.group.leader g) (slots_of o t) d f in
+      let h : First (λ d. nat_eq d.group.leader g) (slots_of o t) d = find_first (λ d. nat_eq d.group.leader g) (slots_of o t) d f in
       let at : d.group.leader ≡ g = eqb-true d.group.leader g h.passes in
-      let m : (m : Member) × In m (members o t) × (group_led_by m ≡ d.group) = from-groups (scopes t) (members o t) d.group (subst (In d.group) same (in-map (λ d. d.group) (slots_of o t) d h.among)) in
-      let p : (p : Place) × In p (places t) × (member_at p ≡ m.0) = from-map member_at (places t) m.0 (subst (In m.0) members-at m.1) in
+      let m : (m : Member) × In m (members o t) × (group_led_by m ≡ d.group) = from-groups (scopes t) (members o t) d.group (subst (In d.group) same (in_map (λ d. d.group) (slots_of o t) d h.among)) in
+      let p : (p : Place) × In p (places t) × (member_at p ≡ m.0) = from_map member_at (places t) m.0 (subst (In m.0) members-at m.1) in
       let placed : m.0.place ≡ p.0 = sym (ap (λ (x : Member). x.place) p.2) in
       let n : node p.0 ≡ node c.0 = sym (ap node placed) ∙ ap (λ (x : Group). x.leader) m.2 ∙ at ∙ sym c.1.number in
-      let q : p.0 ≡ c.0 = one_of t p.0 c.0 p.1 ic n in (
+      let q : p.0 ≡ c.0 = one_of_number t p.0 c.0 p.1 ic n in (
         d,
         record {
           among = h.among;
@@ -353,8 +270,8 @@ module _ (o : Options) (t : Parts) where
     constant : (p b : Place) → Contains (places t) p → Contains (places t) b → binding same_name (places t) p ≡ Some (node b) → new p ≡ new b
     unfolding all_open by_slot
     constant p b i j e =
-        let s : (c : Place) × (node c ≡ node b) × Binding c × (c.name ≡ p.name) = binding_source same_name tells (places t) p (in_from_Contains (places t) p i) (node b) e in
-        let q : s.0 ≡ b = one_of t s.0 b (in_from_Contains (places t) s.0 s.2.among) (in_from_Contains (places t) b j) s.1 in
+        let s : (c : Place) × (node c ≡ node b) × Binding c × (c.name ≡ p.name) = binding_source same_name same_name_tells (places t) p (in_from_Contains (places t) p i) (node b) e in
+        let q : s.0 ≡ b = one_of_number t s.0 b (in_from_Contains (places t) s.0 s.2.among) (in_from_Contains (places t) b j) s.1 in
         let own : binding same_name (places t) b ≡ Some (node b) = subst (λ (x : Place). binding same_name (places t) x ≡ Some (node x)) q s.2.own in
         let n : b.name ≡ p.name = ap (λ (x : Place). x.name) (sym q) ∙ s.3 in
         let same_slot : slot_in o t p ≡ slot_in o t b = ap (λ x. slot_of (slots_of o t) (group_at kept ps bs x)) (e ∙ sym own) in
@@ -367,8 +284,8 @@ module _ (o : Options) (t : Parts) where
 
     taken_name : (p : Place) → In p (places t) → (declares p.site || refers p.site) ≡ true → group_in o t p ≡ None → is_taken o (members o t) p.name ≡ true
     unfolding all_open member_at
-    taken_name p i v e = or_right _ _ (any-from (λ m. is_unchanged m && same_name m.place.name p.name) (members o t) (member_at p) (in-members p i)
-        (and_from _ _ (and_from _ _ v (ap (λ g. not (is_some g)) e)) ((tells p.name p.name).1 refl)))
+    taken_name p i v e = or_right _ _ (any_from (λ m. is_unchanged m && same_name m.place.name p.name) (members o t) (member_at p) (in-members p i)
+        (and_from _ _ (and_from _ _ v (ap (λ g. not (is_some g)) e)) ((same_name_tells p.name p.name).1 refl)))
 
     not_taken : (p : Place) (k : ℕ) → k < number_of_slots (slots_of o t) → In p (places t) → (declares p.site || refers p.site) ≡ true → group_in o t p ≡ None → name k ≡ p.name → ⊥
     not_taken p k h i v g e = both_ways _ (fit.untaken k h) (subst (λ (x : Text). is_taken o (members o t) x ≡ true) (sym e) (taken_name p i v g))
@@ -399,12 +316,12 @@ module _ (o : Options) (t : Parts) where
         go (inr h) =
             let two : (is_inside s (home b.site) ≡ true) × (is_bound_inside same_name (places t) b s ≡ true) = and_parts _ _ h in
             let w : (p : Place) × In p (places t) × ((is_node (binding same_name (places t) p) (node b) && is_inside p.site.setting.scope s) ≡ true) =
-            any-some (λ p. is_node (binding same_name (places t) p) (node b) && is_inside p.site.setting.scope s) (places t) two.1 in
+            any_some (λ p. is_node (binding same_name (places t) p) (node b) && is_inside p.site.setting.scope s) (places t) two.1 in
             let three : (is_node (binding same_name (places t) w.0) (node b) ≡ true) × (is_inside w.0.site.setting.scope s ≡ true) = and_parts _ _ w.2 in
             let bound_to : binding same_name (places t) w.0 ≡ Some (node b) = node_told (binding same_name (places t) w.0) (node b) three.0 in
             let group : group_in o t w.0 ≡ Some g = ap (group_at kept ps bs) (bound_to ∙ sym ib.own) ∙ e in
             or_right _ _ (and_from _ _ (subst (λ (x : Scope). is_inside s x ≡ true) (sym slot.homed) two.0)
-            (any-from (reaches d.group s) (members o t) (member_at w.0) (in-members w.0 w.1)
+            (any_from (reaches d.group s) (members o t) (member_at w.0) (in-members w.0 w.1)
             (and_from _ _ (ap (λ x. is_node x d.group.leader) group ∙ eq-eqb g d.group.leader (sym slot.leader)) three.1)))
           where
             node_told : (x : Option ℕ) (n : ℕ) → is_node x n ≡ true → x ≡ Some n
@@ -416,12 +333,12 @@ module _ (o : Options) (t : Parts) where
     one_name b c g h ib ic e f q =
         let l : (x : Place) × Leader b x g = leader_of b g ib e in
         let m : (x : Place) × Leader c x h = leader_of c h ic f in
-        let same : l.0 ≡ m.0 = one_of t l.0 m.0 (in_from_Contains (places t) l.0 l.1.is.among) (in_from_Contains (places t) m.0 m.1.is.among) (l.1.number ∙ q ∙ sym m.1.number) in
+        let same : l.0 ≡ m.0 = one_of_number t l.0 m.0 (in_from_Contains (places t) l.0 l.1.is.among) (in_from_Contains (places t) m.0 m.1.is.among) (l.1.number ∙ q ∙ sym m.1.number) in
         sym l.1.named ∙ ap (λ (x : Place). x.name) same ∙ m.1.named
 
     apart : (d e : Slotted) (s : Scope) → In d (slots_of o t) → In e (slots_of o t) → d.slot ≡ e.slot → is_live (members o t) s d.group ≡ true → is_live (members o t) s e.group ≡ true → d ≡ e
     unfolding all_open
-    apart d e s i j same a b = go (two-of (Ordered_apart (members o t)) (slots_of o t) d e (pairs-apart (members o t) (groups_of o t) (groups_in_order o t)) i j)
+    apart d e s i j same a b = go (one_or_paired (Ordered_apart (members o t)) (slots_of o t) d e (pairs-apart (members o t) (groups_of o t) (groups_in_order o t)) i j)
       where
         go : (d ≡ e) ⊎ (Ordered_apart (members o t) d e ⊎ Ordered_apart (members o t) e d) → d ≡ e
         go (inl q) = q
@@ -454,7 +371,7 @@ module _ (o : Options) (t : Parts) where
         let gp : group_in o t p ≡ None = ap (group_at kept ps bs) e in
         let np : new p ≡ p.name = new_is p None (without_group p gp) in
         told (group_in o t b)
-        (λ gb. unbound_nothing same_name tells (places t) p b r e jb ib.declares (home_rooted t root b jb) inside (sym (new_is b None (without_group b gb)) ∙ sym n ∙ np))
+        (λ gb. unbound_nothing same_name same_name_tells (places t) p b r e jb ib.declares (home_rooted t root b jb) inside (sym (new_is b None (without_group b gb)) ∙ sym n ∙ np))
         (λ g gb. let k : Called b g = called b g ib gb in not_taken p k.slotted.slot k.below ip (or_right _ _ r) gp (sym k.called ∙ sym n ∙ np))
 
     -- a place that has a group is called as the slot of that
@@ -470,7 +387,7 @@ module _ (o : Options) (t : Parts) where
     placed p g i e = told (binding same_name (places t) p)
         (λ none. absurd (none_some g (sym (ap (group_at kept ps bs) none) ∙ e)))
         (λ n b.
-        let s : (c : Place) × (node c ≡ n) × Binding c × (c.name ≡ p.name) = binding_source same_name tells (places t) p i n b in
+        let s : (c : Place) × (node c ≡ n) × Binding c × (c.name ≡ p.name) = binding_source same_name same_name_tells (places t) p i n b in
         let group : group_in o t s.0 ≡ Some g = ap (group_at kept ps bs) (s.2.own ∙ ap Some s.1 ∙ sym b) ∙ e in
         let d : (d : Slotted) × Slot s.0 g d = slot_for root s.0 g s.2 group in
         record {

@@ -4,16 +4,21 @@ use Rattle.std.specs.List.{list_all}
 use Rattle.std.proofs.Common.{refl, sym, ap, ◌∙◌, subst, arith, inl, inr}
 use Rattle.std.proofs.lemmas.Bool.{or_cases, or_left, or_right, and_parts, and_from, both_ways, eqb-true}
 use Rattle.std.proofs.lemmas.List.{length-map}
-use Rattle.name_rules.proofs.Counting.{no_more}
-use Rattle.name_rules.proofs.Fewest.{count-apart, count-length, slotted-groups}
-use Rattle.name_rules.proofs.Given.{Placed, from-append, from-filter, from-map, home_inside, in-map, keeps_apart, kept_name, member_at, members-at, one_of, placed, tells}
+use Rattle.name_rules.proofs.CountFrom.{count_apart, count_length, from_count}
+use Rattle.list_laws.proofs.AnyOf.{all_map}
+use Rattle.list_laws.proofs.Tests.{tested, told}
+use Rattle.list_laws.proofs.PairsOf.{different_map, PairsOf}
+use Rattle.scope_rules.proofs.SameNames.{same_name_tells, among_in, from_distinct, in_among, to_distinct}
+use Rattle.scope_rules.proofs.PlacesRise.{one_of_number}
+use Rattle.list_laws.proofs.Counting.{no_more}
+use Rattle.name_rules.proofs.Fewest.{slotted-groups}
+use Rattle.name_rules.proofs.Given.{Placed, home_inside, keeps_apart, kept_name, member_at, members-at, placed}
 use Rattle.name_rules.proofs.Order.{slots_are_fewest}
-use Rattle.name_rules.proofs.Passing.{among-in}
-use Rattle.name_rules.proofs.PrivateChains.{from-distinct, in-among, private_names_keep_bindings, to-distinct}
+use Rattle.name_rules.proofs.PrivateChains.{private_names_keep_bindings}
 use Rattle.name_rules.proofs.Renamed.{given-by_slot, named-under}
-use Rattle.name_rules.proofs.Runs.{of-each}
+use Rattle.list_laws.proofs.AllOf.{of_each}
 use Rattle.name_rules.proofs.Ranks.{in-count}
-use Rattle.name_rules.proofs.SlotNamed.{from-count, given_name_in, given_names_fit, map-apart}
+use Rattle.name_rules.proofs.SlotNamed.{given_name_in, given_names_fit}
 use Rattle.name_rules.proofs.Untaken.{free-spelled}
 use Rattle.name_rules.proofs.Used.{slot_found, slot_used}
 use Rattle.name_rules.specs.FreeNames.{is_free, is_spelled, is_taken, is_unchanged}
@@ -29,13 +34,13 @@ use Rattle.name_rules.specs.SlotNames.{group_in, named_by_slot}
 use Rattle.name_rules.specs.Slots.{Slotted, number_of_slots, slot_of, slots_of}
 use Rattle.tree_nodes.specs.Tree.{Parts, Text}
 use Rattle.tree_places.proofs.Blind.{sites-renamed}
-use Rattle.tree_places.proofs.Runs.{AllOf, PairsOf}
+use Rattle.list_laws.proofs.AllOf.{AllOf}
 use Rattle.tree_places.specs.Places.{Place, Site, named_by, names, places, scopes, sites, withs}
 use Rattle.tree_places.specs.Scopes.{Scope, same_scope}
 use Rattle.name_rules.specs.ShortNames.{short}
 use Rattle.scope_rules.specs.Homes.{home}
 use Rattle.scope_rules.proofs.Faultless.{faults_are_never_new}
-use Rattle.scope_rules.proofs.Lists.{In, in_from_Contains, tested, told}
+use Rattle.list_laws.proofs.Members.{In, in_from_Contains, from_append, from_filter, from_map, in_map}
 use Rattle.scope_rules.proofs.Stay.{binding_source, bindings_stay}
 use Rattle.scope_rules.specs.Bindings.{binding, bindings, bound, is_node, node, same_name}
 use Rattle.scope_rules.specs.Evals.{is_open}
@@ -57,11 +62,8 @@ one-from v (x ∷ xs) a = go xs a.1
   where
     go : (ys : List Text) → AllOf (λ y. y ≡ v) ys → list_all (same_name x) ys ≡ true
     go [] b = refl
-    go (y ∷ ys) b = and_from _ _ ((tells x y).1 (a.0 ∙ sym b.0)) (go ys b.1)
+    go (y ∷ ys) b = and_from _ _ ((same_name_tells x y).1 (a.0 ∙ sym b.0)) (go ys b.1)
 
-map-all : {X : Type 0} (f : X → Member) (test : Member → Bool) (xs : List X) → ((x : X) → In x xs → test (f x) ≡ true) → list_all test (map f xs) ≡ true
-map-all f test [] h = refl
-map-all f test (x ∷ xs) h = and_from _ _ (h x (inl refl)) (map-all f test xs (λ y i. h y (inr i)))
 
 -- the names under `new` of the places whose member passes
 where-all : (f : Place → Member) (new : Place → Text) (test : Member → Bool) (P : Text → Type 0) (ps : List Place) → ((p : Place) → In p ps → test (f p) ≡ true → P (new p)) → AllOf P (names_where test (map f ps) (map (under new) ps))
@@ -118,7 +120,7 @@ distinct-apart before (y ∷ ys) = go (is_among before y) (distinct-apart before
   where
     other : (zs : List Text) → ((z : Text) → In z zs → is_among (y ∷ before) z ≡ false) → AllOf (λ z. y ≡ z → ⊥) zs
     other [] f = tt
-    other (z ∷ zs) f = ((λ e. both_ways _ (f z (inl refl)) (or_left _ _ ((tells z y).1 (sym e)))), other zs (λ w i. f w (inr i)))
+    other (z ∷ zs) f = ((λ e. both_ways _ (f z (inl refl)) (or_left _ _ ((same_name_tells z y).1 (sym e)))), other zs (λ w i. f w (inr i)))
 
     go : (b : Bool) → PairsOf (λ x z. x ≡ z → ⊥) (distinct_after before ys) → PairsOf (λ x z. x ≡ z → ⊥) (distinct_after (y ∷ before) ys)
         → PairsOf (λ x z. x ≡ z → ⊥) (elim b as (λ c. List Text) [ true ↦ distinct_after before ys | false ↦ y ∷ distinct_after (y ∷ before) ys ])
@@ -165,13 +167,13 @@ with-map ps f (q ∷ qs) = ap (λ xs. cond q.site.private (new_private_name ps q
 pub from-leading : (ss : List Scope) (ms : List Member) (g : Group) → In g (groups ss ms) → (m : Member) × In m ms × (leads m ≡ true) × (group_led_by m ≡ g)
 unfolding all_open
 from-leading [] ms g i = absurd i
-from-leading (s ∷ ss) ms g i = go (from-append (map group_led_by (filter (λ m. same_scope (home m.place.site) s) (filter leads ms))) (groups ss ms) g i) (from-leading ss ms g)
+from-leading (s ∷ ss) ms g i = go (from_append (map group_led_by (filter (λ m. same_scope (home m.place.site) s) (filter leads ms))) (groups ss ms) g i) (from-leading ss ms g)
   where
     go : In g (map group_led_by (filter (λ m. same_scope (home m.place.site) s) (filter leads ms))) ⊎ In g (groups ss ms) → (In g (groups ss ms) → (m : Member) × In m ms × (leads m ≡ true) × (group_led_by m ≡ g))
         → (m : Member) × In m ms × (leads m ≡ true) × (group_led_by m ≡ g)
     go (inl j) ih =
-        let w : (m : Member) × In m (filter (λ m. same_scope (home m.place.site) s) (filter leads ms)) × (group_led_by m ≡ g) = from-map group_led_by (filter (λ m. same_scope (home m.place.site) s) (filter leads ms)) g j in
-        let f : In w.0 ms × (leads w.0 ≡ true) = from-filter leads ms w.0 (from-filter (λ m. same_scope (home m.place.site) s) (filter leads ms) w.0 w.1).0 in
+        let w : (m : Member) × In m (filter (λ m. same_scope (home m.place.site) s) (filter leads ms)) × (group_led_by m ≡ g) = from_map group_led_by (filter (λ m. same_scope (home m.place.site) s) (filter leads ms)) g j in
+        let f : In w.0 ms × (leads w.0 ≡ true) = from_filter leads ms w.0 (from_filter (λ m. same_scope (home m.place.site) s) (filter leads ms) w.0 w.1).0 in
         (w.0, f.0, f.1, w.2)
     go (inr j) ih = ih j
 
@@ -220,8 +222,8 @@ module _ (o : Options) (t u : Parts) (has : HasNewNames o t u) where
       record {
         in_order = k.in_order;
         constant = λ p b i j e.
-            let s : (c : Place) × (node c ≡ node b) × IsBindingOf same_name (places t) c × (c.name ≡ p.name) = binding_source same_name tells (places t) p (in_from_Contains (places t) p i) (node b) e in
-            let q : s.0 ≡ b = one_of t s.0 b (in_from_Contains (places t) s.0 s.2.among) (in_from_Contains (places t) b j) s.1 in
+            let s : (c : Place) × (node c ≡ node b) × IsBindingOf same_name (places t) c × (c.name ≡ p.name) = binding_source same_name same_name_tells (places t) p (in_from_Contains (places t) p i) (node b) e in
+            let q : s.0 ≡ b = one_of_number t s.0 b (in_from_Contains (places t) s.0 s.2.among) (in_from_Contains (places t) b j) s.1 in
             let own : binding same_name (places t) b ≡ Some (node b) = subst (λ (x : Place). binding same_name (places t) x ≡ Some (node x)) q s.2.own in
             new_open p (bound_open p (node b) e) ∙ k.constant p b i j e ∙ sym (new_open b (bound_open b (node b) own));
         no_new_equality = λ b c ib ic live e. k.no_new_equality b c ib ic live (sym (new_open b (declares_open b.site ib.declares)) ∙ e ∙ new_open c (declares_open c.site ic.declares));
@@ -230,7 +232,7 @@ module _ (o : Options) (t u : Parts) (has : HasNewNames o t u) where
 
   bound_same : bindings same_name (places u) ≡ bindings same_name (places t)
   unfolding all_open member_at
-  bound_same = ap (bindings same_name) places-new ∙ bindings_stay same_name same_name tells tells (places t) new keeps
+  bound_same = ap (bindings same_name) places-new ∙ bindings_stay same_name same_name same_name_tells same_name_tells (places t) new keeps
 
   private_same : has_undeclared same_name (places t) ≡ false → private_bindings same_name (places u) ≡ private_bindings same_name (places t)
   unfolding all_open member_at
@@ -304,7 +306,7 @@ module _ (o : Options) (t u : Parts) (has : HasNewNames o t u) where
   one_name_each : list_all (λ m. is_one_name (names_where (is_with m) (members o t) (places u))) (members o t) ≡ true
   unfolding all_open member_at
   one_name_each = subst (λ (ms : List Member). list_all (λ m. is_one_name (names_where (is_with m) (members o t) (places u))) ms ≡ true) (sym (members-at o t))
-      (map-all (member_at o t) (λ m. is_one_name (names_where (is_with m) (members o t) (places u))) (places t) (λ p i.
+      (all_map (member_at o t) (λ m. is_one_name (names_where (is_with m) (members o t) (places u))) (places t) (λ p i.
       ap (λ us. is_one_name (names_where (is_with (member_at o t p)) (members o t) us)) places-new
       ∙ ap (λ ms. is_one_name (names_where (is_with (member_at o t p)) ms (map (under new) (places t)))) (members-at o t)
       ∙ told (group_in o t p)
@@ -332,7 +334,7 @@ module _ (o : Options) (t u : Parts) (has : HasNewNames o t u) where
   unfolding all_open member_at
   free_each = all-from (is_free o (members o t)) (names_where changes (members o t) (places u)) (changed-all (λ x. is_free o (members o t) x ≡ true) (λ p g i e.
       let d : Placed o t name has.rooted (given_names_fit o t) p g = slot_name_of p g i e in
-      and_from _ _ (of-each (λ x. is_spelled x ≡ true) (free_names o (members o t) slotted) (name d.slotted.slot) (free-spelled o (members o t) slotted) (given_name_in o t d.slotted.slot d.below))
+      and_from _ _ (of_each (λ x. is_spelled x ≡ true) (free_names o (members o t) slotted) (name d.slotted.slot) (free-spelled o (members o t) slotted) (given_name_in o t d.slotted.slot d.below))
       (flip (is_taken o (members o t) (name d.slotted.slot)) ((given_names_fit o t).untaken d.slotted.slot d.below))))
     where
       flip : (b : Bool) → b ≡ false → not b ≡ true
@@ -349,23 +351,23 @@ module _ (o : Options) (t u : Parts) (has : HasNewNames o t u) where
 
   names-apart : PairsOf (λ x y. x ≡ y → ⊥) slot-names
   unfolding slot-names
-  names-apart = map-apart name (count_from slotted 0) (count-apart slotted 0) (λ j k a b e.
-      let p : j < slotted + 0 = from-count slotted 0 j a in
-      let q : k < slotted + 0 = from-count slotted 0 k b in
+  names-apart = different_map name (count_from slotted 0) (count_apart slotted 0) (λ j k a b e.
+      let p : j < slotted + 0 = from_count slotted 0 j a in
+      let q : k < slotted + 0 = from_count slotted 0 k b in
       (given_names_fit o t).different j k (omega (arith, p)) (omega (arith, q)) e)
 
   in-names : (k : ℕ) → k < slotted → In (name k) slot-names
   unfolding slot-names
-  in-names k h = in-map name (count_from slotted 0) k (subst (λ (m : ℕ). In m (count_from slotted 0)) (let e : k + 0 ≡ k = omega arith in e) (in-count slotted 0 k h))
+  in-names k h = in_map name (count_from slotted 0) k (subst (λ (m : ℕ). In m (count_from slotted 0)) (let e : k + 0 ≡ k = omega arith in e) (in-count slotted 0 k h))
 
   -- each name of a slot is that of the leader of a group with the slot
   pub used_name : (k : ℕ) → k < slotted → In (name k) changed
   unfolding all_open member_at
   used_name k h =
       let d : (d : Slotted) × In d (slots_of o t) × (d.slot ≡ k) = slot_used o t k h in
-      let g : In d.0.group (groups_of o t) = subst (In d.0.group) (slotted-groups (members o t) [] (groups_of o t)) (in-map (λ (x : Slotted). x.group) (slots_of o t) d.0 d.1) in
+      let g : In d.0.group (groups_of o t) = subst (In d.0.group) (slotted-groups (members o t) [] (groups_of o t)) (in_map (λ (x : Slotted). x.group) (slots_of o t) d.0 d.1) in
       let m : (m : Member) × In m (members o t) × (leads m ≡ true) × (group_led_by m ≡ d.0.group) = from-leading (scopes t) (members o t) d.0.group g in
-      let p : (p : Place) × In p (places t) × (member_at o t p ≡ m.0) = from-map (member_at o t) (places t) m.0 (subst (In m.0) (members-at o t) m.1) in
+      let p : (p : Place) × In p (places t) × (member_at o t p ≡ m.0) = from_map (member_at o t) (places t) m.0 (subst (In m.0) (members-at o t) m.1) in
       let lead : leads (member_at o t p.0) ≡ true = subst (λ (x : Member). leads x ≡ true) (sym p.2) m.2 in
       let own : group_in o t p.0 ≡ Some (node p.0) = node_told (group_in o t p.0) (node p.0) (and_parts _ _ lead).1 in
       let number : node p.0 ≡ d.0.group.leader = ap (λ (x : Member). node x.place) p.2 ∙ ap (λ (x : Group). x.leader) m.3 in
@@ -387,14 +389,14 @@ module _ (o : Options) (t u : Parts) (has : HasNewNames o t u) where
   unfolding all_open slot-names
   fewest_names =
       let xs : List Text = names_where changes (members o t) (places u) in
-      let most : length (distinct xs) ≤ length slot-names = no_more same_name tells (distinct xs) slot-names (distinct-apart [] xs)
-      (λ x i. of-each (λ y. In y slot-names) xs x (changed-all (λ y. In y slot-names) (λ p g j e. in-names (slot_name_of p g j e).slotted.slot (slot_name_of p g j e).below))
-      (among-in xs x (from-distinct [] xs x (in-among (distinct xs) x i)))) in
-      let least : length slot-names ≤ length (distinct xs) = no_more same_name tells slot-names (distinct xs) names-apart
-      (λ x i. let w : (k : ℕ) × In k (count_from slotted 0) × (name k ≡ x) = from-map name (count_from slotted 0) x i in
-      let b : w.0 < slotted + 0 = from-count slotted 0 w.0 w.1 in
-      among-in (distinct xs) x (to-distinct [] xs x (in-among xs x (subst (λ (y : Text). In y xs) w.2 (used_name w.0 (omega (arith, b))))) refl)) in
-      let many : length slot-names ≡ slotted = length-map (count_from slotted 0) name ∙ count-length slotted 0 in
+      let most : length (distinct xs) ≤ length slot-names = no_more same_name same_name_tells (distinct xs) slot-names (distinct-apart [] xs)
+      (λ x i. of_each (λ y. In y slot-names) xs x (changed-all (λ y. In y slot-names) (λ p g j e. in-names (slot_name_of p g j e).slotted.slot (slot_name_of p g j e).below))
+      (among_in xs x (from_distinct [] xs x (in_among (distinct xs) x i)))) in
+      let least : length slot-names ≤ length (distinct xs) = no_more same_name same_name_tells slot-names (distinct xs) names-apart
+      (λ x i. let w : (k : ℕ) × In k (count_from slotted 0) × (name k ≡ x) = from_map name (count_from slotted 0) x i in
+      let b : w.0 < slotted + 0 = from_count slotted 0 w.0 w.1 in
+      among_in (distinct xs) x (to_distinct [] xs x (in_among xs x (subst (λ (y : Text). In y xs) w.2 (used_name w.0 (omega (arith, b))))) refl)) in
+      let many : length slot-names ≡ slotted = length-map (count_from slotted 0) name ∙ count_length slotted 0 in
       omega (arith, most, least, many, slots_are_fewest o t)
 
   pub is_mangled : has_undeclared same_name (places t) ≡ false → IsMangled t o u
@@ -408,5 +410,5 @@ module _ (o : Options) (t u : Parts) (has : HasNewNames o t u) where
       declared = tested (has_undeclared same_name (places t)) (λ e. absurd (both_ways _ sound (or_left _ _ (or_right _ _ e)))) (λ e. e)
 
       never : NoNewFault same_name (places t) same_name (all_under new (places t))
-      never = faults_are_never_new same_name same_name tells tells (places t) new keeps (λ p i. home_inside t p (in_from_Contains (places t) p i))
+      never = faults_are_never_new same_name same_name same_name_tells same_name_tells (places t) new keeps (λ p i. home_inside t p (in_from_Contains (places t) p i))
           (private_names_keep_bindings t new (λ p i e. new_private p e) declared)

@@ -5,11 +5,12 @@ use Rattle.std.proofs.Common.{refl, sym, ◌∙◌, subst, arith, inl, inr}
 use Rattle.std.proofs.lemmas.Bool.{or_cases, or_left, or_right, both_ways}
 use Rattle.std.proofs.lemmas.Grind.{reverse_onto}
 use Rattle.std.proofs.lemmas.List.{append_assoc}
+use Rattle.list_laws.proofs.PairsOf.{PairsOf, PairsOf_weaken, pairs_by_place, PairsOf_append, PairsOf_reverse}
 use Rattle.name_rules.specs.Open.{all_open}
 use Rattle.name_rules.proofs.Apart.{In_order, never_together}
 use Rattle.name_rules.proofs.Fewest.{Ordered_apart, last-width, pairs-apart, slots-fewest}
 use Rattle.name_rules.specs.Options.{Options}
-use Rattle.tree_places.proofs.Runs.{AllOf, AllOf-push, PairsOf, PairsOf-push}
+use Rattle.list_laws.proofs.AllOf.{AllOf, AllOf_push, AllOf_append, AllOf_weaken}
 use Rattle.name_rules.specs.Groups.{Group, Member, greatest_width, groups, groups_of, leads, members, width}
 use Rattle.tree_nodes.specs.Tree.{Parts}
 use Rattle.tree_places.proofs.Walks.{Proper, known}
@@ -20,14 +21,10 @@ use Rattle.scope_rules.specs.Bindings.{node}
 use Rattle.name_rules.specs.Slots.{Slotted, number_of_slots, slots_of}
 use Rattle.tree_places.proofs.Outwards.{same-eq, same-refl}
 use Rattle.name_rules.specs.Laws.{Apart}
-use Rattle.name_rules.proofs.Runs.{PairsOf-map, of-each, pairs_by_place}
-use Rattle.scope_rules.proofs.Lists.{in_from_Contains}
+use Rattle.list_laws.proofs.AllOf.{of_each}
+use Rattle.list_laws.proofs.Members.{in_from_Contains}
 use Rattle.tree_places.proofs.Rising.{tree-good}
 
-pub AllOf-map : {X : Type 0} (P Q : X → Type 0) → ((x : X) → P x → Q x) → (xs : List X) → AllOf P xs → AllOf Q xs
-unfolding all_open
-AllOf-map P Q f [] a = tt
-AllOf-map P Q f (x ∷ xs) a = (f x a.0, AllOf-map P Q f xs a.1)
 
 -- numbers below a bound
 abbrev Below : ℕ → Scope → Type 0
@@ -35,7 +32,7 @@ Below n s = AllOf (λ k. k < n) s
 
 below-more : (n : ℕ) (s : Scope) → Below n s → Below (suc n) s
 unfolding all_open
-below-more n s b = AllOf-map (λ k. k < n) (λ k. k < suc n) (λ k h. omega arith) s b
+below-more n s b = AllOf_weaken (λ k. k < n) (λ k. k < suc n) (λ k h. omega arith) s b
 
 inside-has : (P : ℕ → Type 0) (x : Scope) (n : ℕ) (ns : Scope) → AllOf P x → is_inside x (n ∷ ns) ≡ true → P n
 unfolding all_open
@@ -68,7 +65,7 @@ unfolding all_open
 proper-below [] p = tt
 proper-below (s ∷ ss) (outer, e, k, p) =
     let b : AllOf (Below (length ss)) ss = proper-below ss p in
-    (subst (Below (suc (length ss))) (sym e) (omega arith, below-more (length ss) outer (known-below (length ss) ss outer b k)), AllOf-map (Below (length ss)) (Below (suc (length ss))) (below-more (length ss)) ss b)
+    (subst (Below (suc (length ss))) (sym e) (omega arith, below-more (length ss) outer (known-below (length ss) ss outer b k)), AllOf_weaken (Below (length ss)) (Below (suc (length ss))) (below-more (length ss)) ss b)
 
 -- no scope is inside a later one
 abbrev Not_inside : Scope → Scope → Type 0
@@ -78,31 +75,15 @@ later : (ss : List Scope) → Proper ss → PairsOf (λ s r. Not_inside r s) ss
 unfolding all_open
 later [] p = tt
 later (s ∷ ss) (outer, e, k, p) = (
-  AllOf-map (Below (length ss)) (λ r. Not_inside r s)
+  AllOf_weaken (Below (length ss)) (λ r. Not_inside r s)
       (λ r b h. let i : length ss < length ss = inside-has (λ j. j < length ss) r (length ss) outer b (subst (λ (x : Scope). is_inside r x ≡ true) e h) in omega arith)
       ss (proper-below ss p),
   later ss p,
 )
 
-AllOf-reverse : {X : Type 0} (P : X → Type 0) (xs : List X) → AllOf P xs → AllOf P (reverse xs)
-unfolding all_open
-AllOf-reverse P [] a = tt
-AllOf-reverse P (x ∷ xs) a = rw (reverse_onto xs x []) (AllOf-push P (reverse xs) x (AllOf-reverse P xs a.1) a.0)
 
-PairsOf-reverse : {X : Type 0} (R : X → X → Type 0) (xs : List X) → PairsOf (λ x y. R y x) xs → PairsOf R (reverse xs)
-unfolding all_open
-PairsOf-reverse R [] p = tt
-PairsOf-reverse R (x ∷ xs) p = rw (reverse_onto xs x []) (PairsOf-push R (reverse xs) x (PairsOf-reverse R xs p.1) (AllOf-reverse (λ y. R y x) xs p.0))
 
-AllOf-append : {X : Type 0} (P : X → Type 0) (xs ys : List X) → AllOf P xs → AllOf P ys → AllOf P (xs ++ ys)
-unfolding all_open
-AllOf-append P [] ys a b = b
-AllOf-append P (x ∷ xs) ys a b = (a.0, AllOf-append P xs ys a.1 b)
 
-PairsOf-append : {X : Type 0} (R : X → X → Type 0) (xs ys : List X) → PairsOf R xs → PairsOf R ys → AllOf (λ x. AllOf (R x) ys) xs → PairsOf R (xs ++ ys)
-unfolding all_open
-PairsOf-append R [] ys p q a = q
-PairsOf-append R (x ∷ xs) ys p q a = (AllOf-append (R x) xs ys p.0 a.0, PairsOf-append R xs ys p.1 q a.1)
 
 -- the groups whose home is s
 abbrev at_scope : List Member → Scope → List Group
@@ -122,14 +103,14 @@ homes (m ∷ ms) s = go (same_scope (home m.place.site) s) refl (homes ms s)
 one-home : (s : Scope) (gs : List Group) → AllOf (λ (g : Group). g.home ≡ s) gs → PairsOf In_order gs
 unfolding all_open
 one-home s [] a = tt
-one-home s (g ∷ gs) a = (AllOf-map (λ (h : Group). h.home ≡ s) (In_order g) (λ h e i. a.0 ∙ sym e) gs a.1, one-home s gs a.1)
+one-home s (g ∷ gs) a = (AllOf_weaken (λ (h : Group). h.home ≡ s) (In_order g) (λ h e i. a.0 ∙ sym e) gs a.1, one-home s gs a.1)
 
 later-homes : (leaders : List Member) (s : Scope) (ss : List Scope) → AllOf (Not_inside s) ss → AllOf (λ (h : Group). Not_inside s h.home) (flat_map (at_scope leaders) ss)
 unfolding all_open
 later-homes leaders s [] a = tt
 later-homes leaders s (r ∷ rs) a =
-    AllOf-append (λ (h : Group). Not_inside s h.home) (at_scope leaders r) (flat_map (at_scope leaders) rs)
-    (AllOf-map (λ (h : Group). h.home ≡ r) (λ (h : Group). Not_inside s h.home) (λ h e i. a.0 (subst (λ (x : Scope). is_inside s x ≡ true) e i)) (at_scope leaders r) (homes leaders r))
+    AllOf_append (λ (h : Group). Not_inside s h.home) (at_scope leaders r) (flat_map (at_scope leaders) rs)
+    (AllOf_weaken (λ (h : Group). h.home ≡ r) (λ (h : Group). Not_inside s h.home) (λ h e i. a.0 (subst (λ (x : Scope). is_inside s x ≡ true) e i)) (at_scope leaders r) (homes leaders r))
     (later-homes leaders s rs a.1)
 
 in_order : (leaders : List Member) (ss : List Scope) → PairsOf Not_inside ss → PairsOf In_order (flat_map (at_scope leaders) ss)
@@ -137,17 +118,17 @@ unfolding all_open
 in_order leaders [] p = tt
 in_order leaders (s ∷ ss) p =
     let further : AllOf (λ (h : Group). Not_inside s h.home) (flat_map (at_scope leaders) ss) = later-homes leaders s ss p.0 in
-    PairsOf-append In_order (at_scope leaders s) (flat_map (at_scope leaders) ss) (one-home s (at_scope leaders s) (homes leaders s)) (in_order leaders ss p.1)
-    (AllOf-map (λ (g : Group). g.home ≡ s) (λ g. AllOf (In_order g) (flat_map (at_scope leaders) ss))
-    (λ g e. AllOf-map (λ (h : Group). Not_inside s h.home) (In_order g) (λ h no i. absurd (no (subst (λ (x : Scope). is_inside x h.home ≡ true) e i))) (flat_map (at_scope leaders) ss) further)
+    PairsOf_append In_order (at_scope leaders s) (flat_map (at_scope leaders) ss) (one-home s (at_scope leaders s) (homes leaders s)) (in_order leaders ss p.1)
+    (AllOf_weaken (λ (g : Group). g.home ≡ s) (λ g. AllOf (In_order g) (flat_map (at_scope leaders) ss))
+    (λ g e. AllOf_weaken (λ (h : Group). Not_inside s h.home) (In_order g) (λ h no i. absurd (no (subst (λ (x : Scope). is_inside x h.home ≡ true) e i))) (flat_map (at_scope leaders) ss) further)
     (at_scope leaders s) (homes leaders s))
 
 homes-among : (leaders : List Member) (whole ss : List Scope) → AllOf (λ s. list_any (same_scope s) whole ≡ true) ss → AllOf (λ (g : Group). list_any (same_scope g.home) whole ≡ true) (flat_map (at_scope leaders) ss)
 unfolding all_open
 homes-among leaders whole [] a = tt
 homes-among leaders whole (s ∷ ss) a =
-    AllOf-append (λ (g : Group). list_any (same_scope g.home) whole ≡ true) (at_scope leaders s) (flat_map (at_scope leaders) ss)
-    (AllOf-map (λ (g : Group). g.home ≡ s) (λ (g : Group). list_any (same_scope g.home) whole ≡ true) (λ g e. subst (λ (x : Scope). list_any (same_scope x) whole ≡ true) (sym e) a.0) (at_scope leaders s) (homes leaders s))
+    AllOf_append (λ (g : Group). list_any (same_scope g.home) whole ≡ true) (at_scope leaders s) (flat_map (at_scope leaders) ss)
+    (AllOf_weaken (λ (g : Group). g.home ≡ s) (λ (g : Group). list_any (same_scope g.home) whole ≡ true) (λ g e. subst (λ (x : Scope). list_any (same_scope x) whole ≡ true) (sym e) a.0) (at_scope leaders s) (homes leaders s))
     (homes-among leaders whole ss a.1)
 
 each-among : (before ss : List Scope) → AllOf (λ s. list_any (same_scope s) (before ++ ss) ≡ true) ss
@@ -162,7 +143,7 @@ each-among before (s ∷ ss) = (found before, subst (λ (w : List Scope). AllOf 
 -- the groups of a tree stand in order
 pub groups_in_order : (o : Options) (t : Parts) → PairsOf In_order (groups_of o t)
 unfolding all_open
-groups_in_order o t = in_order (filter leads (members o t)) (scopes t) (PairsOf-reverse Not_inside (seen t).scopes (later (seen t).scopes (tree-good t).proper))
+groups_in_order o t = in_order (filter leads (members o t)) (scopes t) (PairsOf_reverse Not_inside (seen t).scopes (later (seen t).scopes (tree-good t).proper))
 
 -- of each tree: as many slots as the greatest width
 pub slots_are_fewest : (o : Options) (t : Parts) → number_of_slots (slots_of o t) ≡ greatest_width o t
@@ -175,12 +156,12 @@ slots_are_fewest o t =
 pub width_is_reached : (o : Options) (t : Parts) (b : Slotted) → Contains (slots_of o t) b → suc b.slot ≡ number_of_slots (slots_of o t) → width (members o t) (groups_of o t) b.group.home ≡ greatest_width o t
 unfolding all_open
 width_is_reached o t b c e =
-    of-each (λ (d : Slotted). suc d.slot ≡ number_of_slots (slots_of o t) → width (members o t) (groups_of o t) d.group.home ≡ number_of_slots (slots_of o t)) (slots_of o t) b
+    of_each (λ (d : Slotted). suc d.slot ≡ number_of_slots (slots_of o t) → width (members o t) (groups_of o t) d.group.home ≡ number_of_slots (slots_of o t)) (slots_of o t) b
     (last-width (members o t) (groups_of o t) (groups_in_order o t)) (in_from_Contains (slots_of o t) b c) e
     ∙ slots_are_fewest o t
 
 pub slots_never_clash : (o : Options) (t : Parts) → AllPairs (Apart (members o t)) (slots_of o t)
 unfolding all_open
 slots_never_clash o t = pairs_by_place (Apart (members o t)) (slots_of o t)
-    (PairsOf-map (Ordered_apart (members o t)) (Apart (members o t)) (λ b c a same s l m. never_together (members o t) b c a.0 a.1 same s l m) (slots_of o t)
+    (PairsOf_weaken (Ordered_apart (members o t)) (Apart (members o t)) (λ b c a same s l m. never_together (members o t) b c a.0 a.1 same s l m) (slots_of o t)
     (pairs-apart (members o t) (groups_of o t) (groups_in_order o t)))

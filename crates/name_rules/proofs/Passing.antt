@@ -2,22 +2,20 @@
 use Rattle.std.specs.Prelude.{◌≡◌, ◌⊎◌, ◌≤◌, ℕ, zero, suc, ◌+◌, Bool, true, false, cond, List, [], ◌∷◌, length, map}
 use Rattle.std.proofs.Common.{refl, sym, ap, ◌∙◌, subst, arith, inl, inr}
 use Rattle.std.proofs.lemmas.List.{length-map}
-use Rattle.name_rules.proofs.Counting.{no_more}
-use Rattle.name_rules.proofs.Given.{from-map, tells}
+use Rattle.list_laws.proofs.PairsOf.{PairsOf}
+use Rattle.scope_rules.proofs.SameNames.{same_name_tells, among_in}
+use Rattle.list_laws.proofs.Counting.{no_more}
 use Rattle.name_rules.proofs.Numbered.{short_is_one_to_one}
-use Rattle.name_rules.proofs.Runs.{of-each}
+use Rattle.list_laws.proofs.AllOf.{of_each}
 use Rattle.name_rules.specs.Open.{all_open}
 use Rattle.name_rules.specs.PrivateNumbers.{nth_unlisted}
 use Rattle.name_rules.specs.ShortNames.{short}
 use Rattle.tree_nodes.specs.Tree.{Text}
-use Rattle.tree_places.proofs.Runs.{AllOf, PairsOf}
-use Rattle.scope_rules.proofs.Lists.{In, any-some}
+use Rattle.list_laws.proofs.AllOf.{AllOf}
+use Rattle.list_laws.proofs.Members.{In, from_map}
 use Rattle.scope_rules.specs.Bindings.{same_name}
 use Rattle.scope_rules.specs.PrivateNames.{is_among}
 
-pub among-in : (ns : List Text) (x : Text) → is_among ns x ≡ true → In x ns
-unfolding all_open
-among-in ns x h = let w : (y : Text) × In y ns × (same_name x y ≡ true) = any-some (same_name x) ns h in subst (λ (y : Text). In y ns) (sym ((tells x w.0).0 w.2)) w.1
 
 module _ (listed : List Text) where
   -- the numbers that are passed over
@@ -76,9 +74,9 @@ module _ (listed : List Text) where
 
   asked-few : (fuel n k : ℕ) → length (asked fuel n k) ≤ length listed
   asked-few fuel n k = subst (λ (m : ℕ). m ≤ length listed) (length-map (asked fuel n k) short)
-      (no_more same_name tells (map short (asked fuel n k)) listed (names-apart (asked fuel n k) (asked-apart fuel n k))
-      (λ x i. let w : (j : ℕ) × In j (asked fuel n k) × (short j ≡ x) = from-map short (asked fuel n k) x i in
-      subst (λ (y : Text). In y listed) w.2 (among-in listed (short w.0) (of-each (λ j. is_among listed (short j) ≡ true) (asked fuel n k) w.0 (asked-listed fuel n k) w.1))))
+      (no_more same_name same_name_tells (map short (asked fuel n k)) listed (names-apart (asked fuel n k) (asked-apart fuel n k))
+      (λ x i. let w : (j : ℕ) × In j (asked fuel n k) × (short j ≡ x) = from_map short (asked fuel n k) x i in
+      subst (λ (y : Text). In y listed) w.2 (among_in listed (short w.0) (of_each (λ j. is_among listed (short j) ≡ true) (asked fuel n k) w.0 (asked-listed fuel n k) w.1))))
 
   -- how many of the d numbers from k on aren't listed
   unlisted_in : ℕ → ℕ → ℕ

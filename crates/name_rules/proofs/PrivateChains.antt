@@ -4,10 +4,16 @@ use Rattle.std.specs.List.{flat_map, list_any}
 use Rattle.std.proofs.Common.{refl, sym, ap, ◌∙◌, subst, arith, inl, inr}
 use Rattle.std.proofs.lemmas.Bool.{or_cases, or_left, or_right, and_parts, and_from, both_ways, eq-eqb, eqb-true}
 use Rattle.std.proofs.lemmas.List.Sums.{sum_by-cons}
-use Rattle.name_rules.proofs.Given.{from-filter, from-map, in-filter, in-left, in-map, in-right, named-site, tells}
+use Rattle.std.proofs.lemmas.Simd.{map-map}
+use Rattle.list_laws.proofs.Tests.{none_some, tested, told}
+use Rattle.list_laws.proofs.Mapped.{map_same}
+use Rattle.list_laws.proofs.AnyOf.{any_from, any_some}
+use Rattle.list_laws.proofs.FirstOf.{First, find_first, find_map, find_none, find_same_first}
+use Rattle.scope_rules.proofs.SameNames.{same_name_tells, among_in, from_distinct, in_among, to_distinct}
+use Rattle.scope_rules.proofs.PlacesRise.{named_site}
 use Rattle.name_rules.proofs.Numbered.{short_is_one_to_one}
-use Rattle.name_rules.proofs.Passing.{among-in, nth, nth_is_one_to_one, nth_is_unlisted}
-use Rattle.name_rules.proofs.Runs.{of-each}
+use Rattle.name_rules.proofs.Passing.{nth, nth_is_one_to_one, nth_is_unlisted}
+use Rattle.list_laws.proofs.AllOf.{of_each}
 use Rattle.name_rules.specs.Open.{all_open}
 use Rattle.name_rules.specs.PrivateLaws.{IsClosedAround}
 use Rattle.name_rules.specs.PrivateNumbers.{closed_count, index_of, new_private_name, number_in, open_names, private_number}
@@ -18,7 +24,7 @@ use Rattle.tree_places.proofs.Outwards.{chain, inside-parent, inside-refl, insid
 use Rattle.tree_places.proofs.Walks.{known}
 use Rattle.tree_places.specs.Places.{Place, names, places, sites}
 use Rattle.tree_places.specs.Scopes.{Scope, is_inside, same_scope}
-use Rattle.scope_rules.proofs.Lists.{First, In, any-from, any-some, find-first, find-map, find-none, first-same, map-map, map-same, none_some, tested, told}
+use Rattle.list_laws.proofs.Members.{In, from_filter, from_map, in_filter, in_left, in_map, in_right}
 use Rattle.scope_rules.specs.Bindings.{node_of, same_name}
 use Rattle.scope_rules.specs.Evals.{contains, is_eval, is_open}
 use Rattle.scope_rules.specs.Faults.{has_undeclared, is_undeclared}
@@ -27,36 +33,8 @@ use Rattle.scope_rules.specs.Renamings.{all_under, under}
 
 -- ---- lists of names
 
-pub in-among : (ns : List Text) (x : Text) → In x ns → is_among ns x ≡ true
-unfolding all_open
-in-among ns x i = any-from (same_name x) ns x i ((tells x x).1 refl)
 
-pub from-distinct : (before xs : List Text) (x : Text) → is_among (distinct_after before xs) x ≡ true → is_among xs x ≡ true
-unfolding all_open
-from-distinct before [] x h = h
-from-distinct before (y ∷ ys) x h = go (is_among before y) h (from-distinct before ys x) (from-distinct (y ∷ before) ys x)
-  where
-    go : (b : Bool) → is_among (elim b as (λ c. List Text) [ true ↦ distinct_after before ys | false ↦ y ∷ distinct_after (y ∷ before) ys ]) x ≡ true
-        → (is_among (distinct_after before ys) x ≡ true → is_among ys x ≡ true) → (is_among (distinct_after (y ∷ before) ys) x ≡ true → is_among ys x ≡ true) → (same_name x y || is_among ys x) ≡ true
-    go true k ih jh = or_right _ _ (ih k)
-    go false k ih jh = at (or_cases _ _ k)
-      where
-        at : (same_name x y ≡ true) ⊎ (is_among (distinct_after (y ∷ before) ys) x ≡ true) → (same_name x y || is_among ys x) ≡ true
-        at (inl e) = or_left _ _ e
-        at (inr e) = or_right _ _ (jh e)
 
-pub to-distinct : (before xs : List Text) (x : Text) → is_among xs x ≡ true → is_among before x ≡ false → is_among (distinct_after before xs) x ≡ true
-unfolding all_open
-to-distinct before [] x h n = h
-to-distinct before (y ∷ ys) x h n = go (is_among before y) refl (or_cases _ _ h) (λ k. to-distinct before ys x k n) (λ k m. to-distinct (y ∷ before) ys x k m)
-  where
-    go : (b : Bool) → is_among before y ≡ b → (same_name x y ≡ true) ⊎ (is_among ys x ≡ true) → (is_among ys x ≡ true → is_among (distinct_after before ys) x ≡ true)
-        → (is_among ys x ≡ true → is_among (y ∷ before) x ≡ false → is_among (distinct_after (y ∷ before) ys) x ≡ true)
-        → is_among (elim b as (λ c. List Text) [ true ↦ distinct_after before ys | false ↦ y ∷ distinct_after (y ∷ before) ys ]) x ≡ true
-    go true q (inl e) ih jh = absurd (both_ways _ n (subst (λ (z : Text). is_among before z ≡ true) (sym ((tells x y).0 e)) q))
-    go true q (inr k) ih jh = ih k
-    go false q (inl e) ih jh = or_left _ _ e
-    go false q (inr k) ih jh = tested (same_name x y) (λ e. or_left _ _ e) (λ f. or_right _ _ (jh k (ap (λ b. b || is_among before x) f ∙ n)))
 
 index-below : (ns : List Text) (x : Text) → is_among ns x ≡ true → index_of x ns < length ns
 unfolding all_open
@@ -74,7 +52,7 @@ index-tells (z ∷ zs) x y h k e = go (same_name x z) (same_name y z) refl refl 
   where
     go : (a b : Bool) → same_name x z ≡ a → same_name y z ≡ b → (a || is_among zs x) ≡ true → (b || is_among zs y) ≡ true → cond a 0 (suc (index_of x zs)) ≡ cond b 0 (suc (index_of y zs))
         → (is_among zs x ≡ true → is_among zs y ≡ true → index_of x zs ≡ index_of y zs → x ≡ y) → x ≡ y
-    go true true p q h k e ih = (tells x z).0 p ∙ sym ((tells y z).0 q)
+    go true true p q h k e ih = (same_name_tells x z).0 p ∙ sym ((same_name_tells y z).0 q)
     go true false p q h k e ih = absurd (omega (arith, e))
     go false true p q h k e ih = absurd (omega (arith, e))
     go false false p q h k e ih = ih h k (omega (arith, e))
@@ -84,17 +62,17 @@ index-tells (z ∷ zs) x y h k e = go (same_name x z) (same_name y z) refl refl 
 declared_in : (ps : List Place) (c : ℕ) (q : Place) → In q ps → declares_private c q.site ≡ true → is_among (private_names ps c) q.name ≡ true
 unfolding all_open
 declared_in ps c q i d =
-    to-distinct [] (map (λ p. p.name) (filter (λ p. declares_private c p.site) ps)) q.name
-    (in-among (map (λ p. p.name) (filter (λ p. declares_private c p.site) ps)) q.name (in-map (λ (p : Place). p.name) (filter (λ p. declares_private c p.site) ps) q (in-filter (λ (p : Place). declares_private c p.site) ps q i d)))
+    to_distinct [] (map (λ p. p.name) (filter (λ p. declares_private c p.site) ps)) q.name
+    (in_among (map (λ p. p.name) (filter (λ p. declares_private c p.site) ps)) q.name (in_map (λ (p : Place). p.name) (filter (λ p. declares_private c p.site) ps) q (in_filter (λ (p : Place). declares_private c p.site) ps q i d)))
     refl
 
 declarer : (ps : List Place) (c : ℕ) (x : Text) → is_among (private_names ps c) x ≡ true → (q : Place) × In q ps × (declares_private_name same_name x c q ≡ true)
 unfolding all_open
 declarer ps c x h =
-    let k : is_among (map (λ (p : Place). p.name) (filter (λ p. declares_private c p.site) ps)) x ≡ true = from-distinct [] (map (λ p. p.name) (filter (λ p. declares_private c p.site) ps)) x h in
-    let w : (q : Place) × In q (filter (λ p. declares_private c p.site) ps) × (q.name ≡ x) = from-map (λ (p : Place). p.name) (filter (λ p. declares_private c p.site) ps) x (among-in (map (λ p. p.name) (filter (λ p. declares_private c p.site) ps)) x k) in
-    let f : In w.0 ps × (declares_private c w.0.site ≡ true) = from-filter (λ (p : Place). declares_private c p.site) ps w.0 w.1 in
-    (w.0, f.0, and_from _ _ f.1 ((tells w.0.name x).1 w.2))
+    let k : is_among (map (λ (p : Place). p.name) (filter (λ p. declares_private c p.site) ps)) x ≡ true = from_distinct [] (map (λ p. p.name) (filter (λ p. declares_private c p.site) ps)) x h in
+    let w : (q : Place) × In q (filter (λ p. declares_private c p.site) ps) × (q.name ≡ x) = from_map (λ (p : Place). p.name) (filter (λ p. declares_private c p.site) ps) x (among_in (map (λ p. p.name) (filter (λ p. declares_private c p.site) ps)) x k) in
+    let f : In w.0 ps × (declares_private c w.0.site ≡ true) = from_filter (λ (p : Place). declares_private c p.site) ps w.0 w.1 in
+    (w.0, f.0, and_from _ _ f.1 ((same_name_tells w.0.name x).1 w.2))
 
 sum-first : (n : ℕ) (ns : List ℕ) → sum (n ∷ ns) ≡ n + sum ns
 sum-first n ns = sum_by-cons (λ x. x) n ns
@@ -122,7 +100,7 @@ outside-of (n ∷ ns) c h = go (or_cases _ _ h) (outside-of ns c)
 module _ (t : Parts) where
   known_around : (p : Place) → In p (places t) → known (class_chains t).chains p.site.setting.classes ≡ true
   unfolding places
-  known_around p i = of-each (λ s. known (class_chains t).chains s.setting.classes ≡ true) (sites t) p.site (class_chains t).around (named-site (sites t) (names t) p i)
+  known_around p i = of_each (λ s. known (class_chains t).chains s.setting.classes ≡ true) (sites t) p.site (class_chains t).around (named_site (sites t) (names t) p i)
 
   outside_one : (p q : Place) → In p (places t) → In q (places t) → (c : ℕ) (o r : Scope) → is_inside p.site.setting.classes (c ∷ o) ≡ true → is_inside q.site.setting.classes (c ∷ r) ≡ true → o ≡ r
   outside_one p q i j c o r h k = one_outside (class_chains t).chains (class_chains t).proper p.site.setting.classes q.site.setting.classes c o r (known_around p i) (known_around q j) h k
@@ -131,13 +109,13 @@ module _ (t : Parts) where
   open_outwards : (p : Place) → In p (places t) → (c d : ℕ) (o r : Scope) → is_inside p.site.setting.classes (c ∷ o) ≡ true → is_inside o (d ∷ r) ≡ true → is_open (places t) c ≡ true → is_open (places t) d ≡ true
   unfolding all_open
   open_outwards p i c d o r h k e =
-      let w : (q : Place) × In q (places t) × ((is_eval q && contains q.site.setting.classes c) ≡ true) = any-some (λ q. is_eval q && contains q.site.setting.classes c) (places t) e in
+      let w : (q : Place) × In q (places t) × ((is_eval q && contains q.site.setting.classes c) ≡ true) = any_some (λ q. is_eval q && contains q.site.setting.classes c) (places t) e in
       let two : (is_eval w.0 ≡ true) × (contains w.0.site.setting.classes c ≡ true) = and_parts _ _ w.2 in
       let u : (x : List ℕ) × (is_inside w.0.site.setting.classes (c ∷ x) ≡ true) = outside-of w.0.site.setting.classes c two.1 in
       let same : u.0 ≡ o = outside_one w.0 p w.1 i c u.0 o u.1 h in
       let at : is_inside w.0.site.setting.classes (c ∷ o) ≡ true = subst (λ (x : Scope). is_inside w.0.site.setting.classes (c ∷ x) ≡ true) same u.1 in
       let far : is_inside w.0.site.setting.classes (d ∷ r) ≡ true = inside-trans w.0.site.setting.classes (c ∷ o) (d ∷ r) at (or_right _ _ k) in
-      any-from (λ q. is_eval q && contains q.site.setting.classes d) (places t) w.0 w.1 (and_from _ _ two.0 (contains-inside w.0.site.setting.classes d r far))
+      any_from (λ q. is_eval q && contains q.site.setting.classes d) (places t) w.0 w.1 (and_from _ _ two.0 (contains-inside w.0.site.setting.classes d r far))
 
   closed_inwards : (p : Place) → In p (places t) → (c d : ℕ) (o r : Scope) → is_inside p.site.setting.classes (c ∷ o) ≡ true → is_inside o (d ∷ r) ≡ true → is_open (places t) d ≡ false → is_open (places t) c ≡ false
   closed_inwards p i c d o r h k f = tested (is_open (places t) c) (λ e. absurd (both_ways _ f (open_outwards p i c d o r h k e))) (λ e. e)
@@ -192,14 +170,14 @@ module _ (t : Parts) where
           → is_among (flat_map (private_names (places t)) (cond b (d ∷ filter (is_open (places t)) ds) (filter (is_open (places t)) ds))) x ≡ true
       go (inl q) true f ih =
           let s : d ≡ c = ap (λ (y : Scope). elim y [ [] ↦ 0 | n ∷ ns ↦ n ]) (same-eq (d ∷ ds) (c ∷ r) q) in
-          in-among (private_names (places t) d ++ flat_map (private_names (places t)) (filter (is_open (places t)) ds)) x
-          (in-left (private_names (places t) d) (flat_map (private_names (places t)) (filter (is_open (places t)) ds)) x
-          (among-in (private_names (places t) d) x (subst (λ (n : ℕ). is_among (private_names (places t) n) x ≡ true) (sym s) k)))
+          in_among (private_names (places t) d ++ flat_map (private_names (places t)) (filter (is_open (places t)) ds)) x
+          (in_left (private_names (places t) d) (flat_map (private_names (places t)) (filter (is_open (places t)) ds)) x
+          (among_in (private_names (places t) d) x (subst (λ (n : ℕ). is_among (private_names (places t) n) x ≡ true) (sym s) k)))
       go (inl q) false f ih =
           let s : d ≡ c = ap (λ (y : Scope). elim y [ [] ↦ 0 | n ∷ ns ↦ n ]) (same-eq (d ∷ ds) (c ∷ r) q) in
           absurd (both_ways _ f (subst (λ (n : ℕ). is_open (places t) n ≡ true) (sym s) e))
-      go (inr q) true f ih = in-among (private_names (places t) d ++ flat_map (private_names (places t)) (filter (is_open (places t)) ds)) x
-          (in-right (private_names (places t) d) (flat_map (private_names (places t)) (filter (is_open (places t)) ds)) x (among-in (open_names (places t) ds) x (ih q)))
+      go (inr q) true f ih = in_among (private_names (places t) d ++ flat_map (private_names (places t)) (filter (is_open (places t)) ds)) x
+          (in_right (private_names (places t) d) (flat_map (private_names (places t)) (filter (is_open (places t)) ds)) x (among_in (open_names (places t) ds) x (ih q)))
       go (inr q) false f ih = ih q
 
   -- ---- numbers along a chain are different
@@ -297,15 +275,15 @@ module _ (t : Parts) where
   among-found : (x : Text) (d : ℕ) (q : Place) → find (declares_private_name same_name x d) (places t) ≡ Some q → is_among (private_names (places t) d) x ≡ true
   unfolding all_open
   among-found x d q f =
-      let g : First (declares_private_name same_name x d) (places t) q = find-first (declares_private_name same_name x d) (places t) q f in
+      let g : First (declares_private_name same_name x d) (places t) q = find_first (declares_private_name same_name x d) (places t) q f in
       let two : (declares_private d q.site ≡ true) × (same_name q.name x ≡ true) = and_parts _ _ g.passes in
-      subst (λ (y : Text). is_among (private_names (places t) d) y ≡ true) ((tells q.name x).0 two.1) (declared_in (places t) d q g.among two.0)
+      subst (λ (y : Text). is_among (private_names (places t) d) y ≡ true) ((same_name_tells q.name x).0 two.1) (declared_in (places t) d q g.among two.0)
 
   among-none : (x : Text) (d : ℕ) → find (declares_private_name same_name x d) (places t) ≡ None → is_among (private_names (places t) d) x ≡ false
   unfolding all_open
   among-none x d f = tested (is_among (private_names (places t) d) x)
       (λ e. let w : (q : Place) × In q (places t) × (declares_private_name same_name x d q ≡ true) = declarer (places t) d x e in
-      absurd (find-none (declares_private_name same_name x d) (places t) w.0 f w.1 w.2))
+      absurd (find_none (declares_private_name same_name x d) (places t) w.0 f w.1 w.2))
       (λ e. e)
 
   number-here : (x : Text) (d : ℕ) (o : List ℕ) → is_among (private_names (places t) d) x ≡ true → private_number (places t) x (d ∷ o) ≡ number_for d o x
@@ -362,7 +340,7 @@ module _ (t : Parts) where
 
     step' : (x : Text) (d : ℕ) (o : List ℕ) → private_binder same_name (all_under new (places t)) x (d ∷ o) ≡ further' x o (node_of (find (λ q. declares_private_name same_name x d (under new q)) (places t)))
     unfolding all_open further'
-    step' x d o = ap (further' x o) (ap node_of (find-map (under new) (declares_private_name same_name x d) (places t)) ∙ node_under (find (λ q. declares_private_name same_name x d (under new q)) (places t)))
+    step' x d o = ap (further' x o) (ap node_of (find_map (under new) (declares_private_name same_name x d) (places t)) ∙ node_under (find (λ q. declares_private_name same_name x d (under new q)) (places t)))
 
     binder_stays : (p : Place) → In p (places t) → (n : ℕ) (s : List ℕ) → is_inside p.site.setting.classes s ≡ true → private_binder same_name (places t) p.name s ≡ Some n → new p ≡ by_number p.name (private_number (places t) p.name s)
         → private_binder same_name (all_under new (places t)) (new p) s ≡ private_binder same_name (places t) p.name s
@@ -387,30 +365,30 @@ module _ (t : Parts) where
             → find (λ q. declares_private_name same_name (new p) d (under new q)) (places t) ≡ None
         nothing d o none h k r inside among is = told (find (λ q. declares_private_name same_name (new p) d (under new q)) (places t)) (λ x. x)
             (λ q f.
-            let g : First (λ q. declares_private_name same_name (new p) d (under new q)) (places t) q = find-first (λ q. declares_private_name same_name (new p) d (under new q)) (places t) q f in
+            let g : First (λ q. declares_private_name same_name (new p) d (under new q)) (places t) q = find_first (λ q. declares_private_name same_name (new p) d (under new q)) (places t) q f in
             let two : (declares_private d q.site ≡ true) × (same_name (new q) (new p) ≡ true) = and_parts _ _ g.passes in
-            let e : called d o q.name ≡ called k r p.name = sym (declared_so p q i g.among d o h two.0) ∙ (tells (new q) (new p)).0 two.1 ∙ is in
+            let e : called d o q.name ≡ called k r p.name = sym (declared_so p q i g.among d o h two.0) ∙ (same_name_tells (new q) (new p)).0 two.1 ∙ is in
             absurd (called-other p i d k o r q.name p.name h inside (declared_in (places t) d q g.among two.0) among
-            (λ same. find-none (declares_private_name same_name p.name d) (places t) q none g.among (and_from _ _ two.0 ((tells q.name p.name).1 same))) e))
+            (λ same. find_none (declares_private_name same_name p.name d) (places t) q none g.among (and_from _ _ two.0 ((same_name_tells q.name p.name).1 same))) e))
 
         found : (d : ℕ) (o : List ℕ) → is_inside p.site.setting.classes (d ∷ o) ≡ true → new p ≡ called d o p.name → is_among (private_names (places t) d) p.name ≡ true
             → find (λ q. declares_private_name same_name (new p) d (under new q)) (places t) ≡ find (declares_private_name same_name p.name d) (places t)
-        found d o h is among = first-same (declares_private_name same_name p.name d) (λ q. declares_private_name same_name (new p) d (under new q)) (places t)
+        found d o h is among = find_same_first (declares_private_name same_name p.name d) (λ q. declares_private_name same_name (new p) d (under new q)) (places t)
             (λ q j e.
             let two : (declares_private d q.site ≡ true) × (same_name (new q) (new p) ≡ true) = and_parts _ _ e in
-            and_from _ _ two.0 ((tells q.name p.name).1 (called-one d o q.name p.name (declared_in (places t) d q j two.0) among
-            (sym (declared_so p q i j d o h two.0) ∙ (tells (new q) (new p)).0 two.1 ∙ is))))
+            and_from _ _ two.0 ((same_name_tells q.name p.name).1 (called-one d o q.name p.name (declared_in (places t) d q j two.0) among
+            (sym (declared_so p q i j d o h two.0) ∙ (same_name_tells (new q) (new p)).0 two.1 ∙ is))))
             (λ q f.
-            let g : First (declares_private_name same_name p.name d) (places t) q = find-first (declares_private_name same_name p.name d) (places t) q f in
+            let g : First (declares_private_name same_name p.name d) (places t) q = find_first (declares_private_name same_name p.name d) (places t) q f in
             let two : (declares_private d q.site ≡ true) × (same_name q.name p.name ≡ true) = and_parts _ _ g.passes in
-            and_from _ _ two.0 ((tells (new q) (new p)).1 (declared_so p q i g.among d o h two.0 ∙ ap (called d o) ((tells q.name p.name).0 two.1) ∙ sym is)))
+            and_from _ _ two.0 ((same_name_tells (new q) (new p)).1 (declared_so p q i g.among d o h two.0 ∙ ap (called d o) ((same_name_tells q.name p.name).0 two.1) ∙ sym is)))
 
     binding_stays : has_undeclared same_name (places t) ≡ false → (p : Place) → In p (places t) → private_binding same_name (all_under new (places t)) (under new p) ≡ private_binding same_name (places t) p
     unfolding all_open by_number
     binding_stays sound p i = tested p.site.private
         (λ e. ap (λ b. cond b (private_binder same_name (all_under new (places t)) (new p) p.site.setting.classes) None) e
         ∙ told (private_binder same_name (places t) p.name p.site.setting.classes)
-        (λ none. absurd (both_ways _ sound (any-from (is_undeclared same_name (places t)) (places t) p i
+        (λ none. absurd (both_ways _ sound (any_from (is_undeclared same_name (places t)) (places t) p i
         (and_from _ _ e (ap (λ b. not (is_some (cond b (private_binder same_name (places t) p.name p.site.setting.classes) None))) e ∙ ap (λ o. not (is_some o)) none)))))
         (λ n f. binder_stays p i n p.site.setting.classes (inside-refl p.site.setting.classes) f (so p i e))
         ∙ sym (ap (λ b. cond b (private_binder same_name (places t) p.name p.site.setting.classes) None) e))
@@ -419,5 +397,5 @@ module _ (t : Parts) where
 
     pub private_names_keep_bindings : has_undeclared same_name (places t) ≡ false → private_bindings same_name (all_under new (places t)) ≡ private_bindings same_name (places t)
     unfolding all_open
-    private_names_keep_bindings sound = map-map (under new) (private_binding same_name (all_under new (places t))) (places t)
-        ∙ map-same (λ p. private_binding same_name (all_under new (places t)) (under new p)) (private_binding same_name (places t)) (places t) (binding_stays sound)
+    private_names_keep_bindings sound = map-map (private_binding same_name (all_under new (places t))) (under new) (places t)
+        ∙ map_same (λ p. private_binding same_name (all_under new (places t)) (under new p)) (private_binding same_name (places t)) (places t) (binding_stays sound)

@@ -1,7 +1,9 @@
 -- A tree under its given names.
 use Rattle.std.specs.Prelude.{◌≡◌, ℕ, List, [], ◌∷◌, map, get_or}
 use Rattle.std.proofs.Common.{refl, ap, ◌∙◌}
-use Rattle.name_rules.proofs.Given.{keeps_apart, tells}
+use Rattle.std.proofs.lemmas.Simd.{map-map}
+use Rattle.scope_rules.proofs.SameNames.{same_name_tells}
+use Rattle.name_rules.proofs.Given.{keeps_apart}
 use Rattle.name_rules.proofs.SlotNamed.{given_names_fit}
 use Rattle.name_rules.specs.GivenNames.{given_names, names_of_slots, new_name}
 use Rattle.name_rules.specs.Groups.{group_at}
@@ -12,7 +14,6 @@ use Rattle.name_rules.specs.SlotNames.{GivenNamesKeepBindings, group_in, named_b
 use Rattle.name_rules.specs.Slots.{slots_of}
 use Rattle.tree_nodes.specs.Tree.{Parts, Text}
 use Rattle.tree_places.specs.Places.{Place, Site, named_by, names, places, sites, withs}
-use Rattle.scope_rules.proofs.Lists.{map-map}
 use Rattle.scope_rules.proofs.Stay.{bindings_stay}
 use Rattle.scope_rules.specs.Bindings.{Bound, binding, bindings, bound, same_name}
 use Rattle.scope_rules.specs.Renamings.{under}
@@ -30,9 +31,9 @@ pub given-by_slot : (o : Options) (t : Parts) → given_names o t ≡ map (named
 unfolding all_open
 given-by_slot o t =
     ap (map (new_name (slots_of o t) (names_of_slots o t)))
-    (map-map (λ (p : Place). record { place = p; binding = binding same_name (places t) p })
-    (λ (b : Bound Text). record { place = b.place; binding = b.binding; group = group_at (kept_alone o (withs t) (places t) (bound same_name (places t))) (places t) (bound same_name (places t)) b.binding }) (places t))
-    ∙ map-map (λ (p : Place). record { place = p; binding = binding same_name (places t) p; group = group_in o t p }) (new_name (slots_of o t) (names_of_slots o t)) (places t)
+    (map-map (λ (b : Bound Text). record { place = b.place; binding = b.binding; group = group_at (kept_alone o (withs t) (places t) (bound same_name (places t))) (places t) (bound same_name (places t)) b.binding })
+    (λ (p : Place). record { place = p; binding = binding same_name (places t) p }) (places t))
+    ∙ map-map (new_name (slots_of o t) (names_of_slots o t)) (λ (p : Place). record { place = p; binding = binding same_name (places t) p; group = group_in o t p }) (places t)
 
 pub given_names_keep_bindings : GivenNamesKeepBindings
 unfolding all_open
@@ -40,4 +41,4 @@ given_names_keep_bindings o t root =
     let name : ℕ → Text = λ k. get_or (names_of_slots o t) k [] in
     ap (λ xs. bindings same_name (named_by (sites t) xs)) (given-by_slot o t)
     ∙ ap (bindings same_name) (named-under (named_by_slot o t name) (sites t) (names t))
-    ∙ bindings_stay same_name same_name tells tells (places t) (named_by_slot o t name) (keeps_apart o t name root (given_names_fit o t))
+    ∙ bindings_stay same_name same_name same_name_tells same_name_tells (places t) (named_by_slot o t name) (keeps_apart o t name root (given_names_fit o t))

@@ -2,17 +2,20 @@
 use Rattle.std.specs.Prelude.{◌≡◌, ◌⊎◌, ◌≤◌, ◌<◌, ℕ, zero, suc, ◌+◌, ◌*◌, Bool, true, false, cond, not, ◌&&◌, nat_eq, nat_le, List, [], ◌∷◌, length, map, filter, get_or, sum, Option, Some, None, is_some}
 use Rattle.std.specs.List.{fold}
 use Rattle.std.proofs.Common.{refl, sym, ap, ◌∙◌, subst, arith, inl, inr}
-use Rattle.std.proofs.lemmas.Bool.{and_parts, both_ways, cases_lt}
+use Rattle.std.proofs.lemmas.Bool.{and_parts, both_ways, cases_lt, not-true}
 use Rattle.std.proofs.lemmas.Bool.Decides.{leb_tells}
 use Rattle.std.proofs.lemmas.List.{length-map}
+use Rattle.std.proofs.lemmas.List.Filters.{length-filter_both}
+use Rattle.name_rules.proofs.CountFrom.{count_apart, count_length, count_at, from_count}
+use Rattle.list_laws.proofs.PairsOf.{PairsOf_filter, different_map, PairsOf}
+use Rattle.scope_rules.proofs.SameNames.{same_name_tells}
 use Rattle.name_rules.proofs.Bounds.{Numbered_below, found_below}
-use Rattle.name_rules.proofs.Counting.{no_more}
-use Rattle.name_rules.proofs.Fewest.{count-apart, count-length}
-use Rattle.name_rules.proofs.Given.{Placed, from-filter, from-map, in-filter, member_at, members-at, tells}
+use Rattle.list_laws.proofs.Counting.{no_more}
+use Rattle.name_rules.proofs.Given.{Placed, member_at, members-at}
 use Rattle.name_rules.proofs.Mangling.{grouped_open, new, new_open, places-new, slot_name_of, used_name}
 use Rattle.name_rules.proofs.Numbered.{lengths_never_fall}
 use Rattle.name_rules.proofs.Ranks.{in-count}
-use Rattle.name_rules.proofs.SlotNamed.{count-at, filter-apart, from-count, given_name_in, given_names_fit, heavier-shorter, map-apart}
+use Rattle.name_rules.proofs.SlotNamed.{given_name_in, given_names_fit, heavier-shorter}
 use Rattle.name_rules.proofs.Spelled.{spelled-short}
 use Rattle.name_rules.proofs.Totals.{no_dearer, one_more, total, total-same, total_none}
 use Rattle.name_rules.proofs.Untaken.{candidate_one, free-different, free-length}
@@ -28,9 +31,9 @@ use Rattle.name_rules.specs.Shortest.{IsChoice, NoChoiceIsShorter, changed_names
 use Rattle.name_rules.specs.SlotNames.{group_in}
 use Rattle.name_rules.specs.Slots.{number_of_slots, slot_of, slots_of, weight}
 use Rattle.tree_nodes.specs.Tree.{Parts, Text}
-use Rattle.tree_places.proofs.Runs.{AllOf, PairsOf}
+use Rattle.list_laws.proofs.AllOf.{AllOf}
 use Rattle.tree_places.specs.Places.{Place, places}
-use Rattle.scope_rules.proofs.Lists.{In, contains_from_in}
+use Rattle.list_laws.proofs.Members.{In, contains_from_in, from_filter, from_map, in_filter}
 use Rattle.scope_rules.specs.Bindings.{is_node, same_name}
 use Rattle.scope_rules.specs.Homes.{refers}
 use Rattle.scope_rules.specs.Renamings.{under}
@@ -82,19 +85,7 @@ module _ (name : ℕ → Text) (one : (m n : ℕ) → name m ≡ name n → m �
 
 -- ---- lists
 
--- those that pass a test, and the others
-partition : {X : Type 0} (p : X → Bool) (xs : List X) → length (filter p xs) + length (filter (λ x. not (p x)) xs) ≡ length xs
-partition p [] = refl
-partition {X} p (x ∷ xs) = go (p x) (partition p xs)
-  where
-    go : (b : Bool) → length (filter p xs) + length (filter (λ y. not (p y)) xs) ≡ length xs
-        → length (cond b (x ∷ filter p xs) (filter p xs)) + length (cond (not b) (x ∷ filter (λ y. not (p y)) xs) (filter (λ y. not (p y)) xs)) ≡ suc (length xs)
-    go true h = omega (arith, h)
-    go false h = omega (arith, h)
 
-not_told : (b : Bool) → not b ≡ true → b ≡ false
-not_told true h = absurd (both_ways false refl h)
-not_told false h = refl
 
 not_from : (b : Bool) → b ≡ false → not b ≡ true
 not_from true h = absurd (both_ways true h refl)
@@ -170,7 +161,7 @@ module _ (o : Options) (t u : Parts) (has : HasNewNames o t u) where
   heavy k = weight (members o t) (slots_of o t) k
 
   below : (k : ℕ) → In k ks → k < slotted
-  below k i = let h : k < slotted + 0 = from-count slotted 0 k i in omega (arith, h)
+  below k i = let h : k < slotted + 0 = from_count slotted 0 k i in omega (arith, h)
 
   -- references to bindings that aren't kept, and those of slot k
   abbrev refers_changed : Member → Bool
@@ -199,7 +190,7 @@ module _ (o : Options) (t u : Parts) (has : HasNewNames o t u) where
         (λ k. cond (nat_eq k₀ k) (suc (length (filter (refers_to k) (map (member_at o t) ps)))) (length (filter (refers_to k) (map (member_at o t) ps))) * count (name k)) ks
         (λ k i. ap (λ n. n * count (name k)) (ap (λ b. length (cond b (member_at o t p ∷ filter (refers_to k) (map (member_at o t) ps)) (filter (refers_to k) (map (member_at o t) ps)))) (h k)
         ∙ either (nat_eq k₀ k) (member_at o t p) (filter (refers_to k) (map (member_at o t) ps))))
-        ∙ one_more k₀ (λ k. length (filter (refers_to k) (map (member_at o t) ps))) (λ k. count (name k)) ks (count-apart slotted 0)
+        ∙ one_more k₀ (λ k. length (filter (refers_to k) (map (member_at o t) ps))) (λ k. count (name k)) ks (count_apart slotted 0)
         (subst (λ (m : ℕ). In m ks) (let e : k₀ + 0 ≡ k₀ = omega arith in e) (in-count slotted 0 k₀ l))
       where
         either : (b : Bool) (m : Member) (ms : List Member) → length (cond b (m ∷ ms) ms) ≡ cond b (suc (length ms)) (length ms)
@@ -277,7 +268,7 @@ module _ (o : Options) (t u : Parts) (has : HasNewNames o t u) where
         let b : Numbered_below (candidate o.readable) (candidate_one o.readable) (is_taken o (members o t)) y 0 _ = found_below (candidate o.readable) (candidate_one o.readable) (is_taken o (members o t)) fuel (number_of_slots (slots_of o t)) 0 y i in
         subst (λ (z : Text). In z free) (sym e)
         (none_passed_over (candidate o.readable) (candidate_one o.readable) grows (is_taken o (members o t)) n.0 b.number fuel (number_of_slots (slots_of o t)) 0 (from_zero n.0)
-        (before n.0 b.number e b.is (cases_lt n.0 b.number)) (subst (λ (z : Text). is_taken o (members o t) z ≡ false) e (not_told _ two.1)) (subst (λ (z : Text). In z free) b.is i))
+        (before n.0 b.number e b.is (cases_lt n.0 b.number)) (subst (λ (z : Text). is_taken o (members o t) z ≡ false) e (not-true _ two.1)) (subst (λ (z : Text). In z free) b.is i))
       where
         from_zero : (n : ℕ) → 0 ≤ n
         from_zero n = omega arith
@@ -304,10 +295,10 @@ module _ (o : Options) (t u : Parts) (has : HasNewNames o t u) where
         weights = map (weight (members o t) (slots_of o t)) (count_from (number_of_slots (slots_of o t)) 0)
 
         long : length (map (weight (members o t) (slots_of o t)) (count_from (number_of_slots (slots_of o t)) 0)) ≡ slotted
-        long = length-map (count_from slotted 0) (weight (members o t) (slots_of o t)) ∙ count-length slotted 0
+        long = length-map (count_from slotted 0) (weight (members o t) (slots_of o t)) ∙ count_length slotted 0
 
         weighs : (m : ℕ) → m < slotted → get_or (map (weight (members o t) (slots_of o t)) (count_from (number_of_slots (slots_of o t)) 0)) m 0 ≡ heavy m
-        weighs m a = count-at (weight (members o t) (slots_of o t)) slotted 0 m 0 a ∙ ap (weight (members o t) (slots_of o t)) (let e : m + 0 ≡ m = omega arith in e)
+        weighs m a = count_at (weight (members o t) (slots_of o t)) slotted 0 m 0 a ∙ ap (weight (members o t) (slots_of o t)) (let e : m + 0 ≡ m = omega arith in e)
 
         no : heavy k < heavy l → ⊥
         no a =
@@ -335,21 +326,21 @@ module _ (o : Options) (t u : Parts) (has : HasNewNames o t u) where
     no_fewer_long s l i h =
         counts (length (filter (λ k. is_long s (given k)) ks)) (length (filter (λ x. is_long s (length x)) free)) (length (filter (λ x. not (is_long s (length x))) free)) (length free)
         (length (filter (λ k. is_long s (chosen k)) ks)) (length (filter (λ k. not (is_long s (chosen k))) ks)) (length ks)
-        long_given short_chosen (partition (λ x. is_long s (length x)) free) (partition (λ k. is_long s (chosen k)) ks)
-        (free-length o (members o t) slotted ∙ sym (count-length slotted 0))
+        long_given short_chosen (length-filter_both (λ x. is_long s (length x)) (λ x. not (is_long s (length x))) (λ x. refl) free) (length-filter_both (λ k. is_long s (chosen k)) (λ k. not (is_long s (chosen k))) (λ k. refl) ks)
+        (free-length o (members o t) slotted ∙ sym (count_length slotted 0))
       where
         counts : (gl fl fs f cl cs k : ℕ) → gl ≤ fl → cs ≤ fs → fl + fs ≡ f → cl + cs ≡ k → f ≡ k → gl ≤ cl
         counts gl fl fs f cl cs k a b c d e = omega (arith, a, b, c, d, e)
 
         long_given : length (filter (λ k. is_long s (given k)) ks) ≤ length (filter (λ x. is_long s (length x)) free)
         long_given = subst (λ (n : ℕ). n ≤ length (filter (λ x. is_long s (length x)) free)) (length-map (filter (λ k. is_long s (given k)) ks) name)
-            (no_more same_name tells (map name (filter (λ k. is_long s (given k)) ks)) (filter (λ x. is_long s (length x)) free)
-            (map-apart name (filter (λ k. is_long s (given k)) ks) (filter-apart (λ x y. x ≡ y → ⊥) (λ k. is_long s (given k)) ks (count-apart slotted 0))
-            (λ j k a b e. (given_names_fit o t).different j k (below j (from-filter (λ k. is_long s (given k)) ks j a).0) (below k (from-filter (λ k. is_long s (given k)) ks k b).0) e))
+            (no_more same_name same_name_tells (map name (filter (λ k. is_long s (given k)) ks)) (filter (λ x. is_long s (length x)) free)
+            (different_map name (filter (λ k. is_long s (given k)) ks) (PairsOf_filter (λ x y. x ≡ y → ⊥) (λ k. is_long s (given k)) ks (count_apart slotted 0))
+            (λ j k a b e. (given_names_fit o t).different j k (below j (from_filter (λ k. is_long s (given k)) ks j a).0) (below k (from_filter (λ k. is_long s (given k)) ks k b).0) e))
             (λ x a.
-            let w : (k : ℕ) × In k (filter (λ k. is_long s (given k)) ks) × (name k ≡ x) = from-map name (filter (λ k. is_long s (given k)) ks) x a in
-            let f : In w.0 ks × (is_long s (given w.0) ≡ true) = from-filter (λ k. is_long s (given k)) ks w.0 w.1 in
-            subst (λ (y : Text). In y (filter (λ x. is_long s (length x)) free)) w.2 (in-filter (λ x. is_long s (length x)) free (name w.0) (given_name_in o t w.0 (below w.0 f.0)) f.1)))
+            let w : (k : ℕ) × In k (filter (λ k. is_long s (given k)) ks) × (name k ≡ x) = from_map name (filter (λ k. is_long s (given k)) ks) x a in
+            let f : In w.0 ks × (is_long s (given w.0) ≡ true) = from_filter (λ k. is_long s (given k)) ks w.0 w.1 in
+            subst (λ (y : Text). In y (filter (λ x. is_long s (length x)) free)) w.2 (in_filter (λ x. is_long s (length x)) free (name w.0) (given_name_in o t w.0 (below w.0 f.0)) f.1)))
 
         one_choice : (j k : ℕ) → In j ks → In k ks → g (name j) ≡ g (name k) → j ≡ k
         one_choice j k a b e = (given_names_fit o t).different j k (below j a) (below k b)
@@ -367,15 +358,15 @@ module _ (o : Options) (t u : Parts) (has : HasNewNames o t u) where
 
         short_chosen : length (filter (λ k. not (is_long s (chosen k))) ks) ≤ length (filter (λ x. not (is_long s (length x))) free)
         short_chosen = subst (λ (n : ℕ). n ≤ length (filter (λ x. not (is_long s (length x))) free)) (length-map (filter (λ k. not (is_long s (chosen k))) ks) (λ k. g (name k)))
-            (no_more same_name tells (map (λ k. g (name k)) (filter (λ k. not (is_long s (chosen k))) ks)) (filter (λ x. not (is_long s (length x))) free)
-            (map-apart (λ k. g (name k)) (filter (λ k. not (is_long s (chosen k))) ks) (filter-apart (λ x y. x ≡ y → ⊥) (λ k. not (is_long s (chosen k))) ks (count-apart slotted 0))
-            (λ j k a b e. one_choice j k (from-filter (λ k. not (is_long s (chosen k))) ks j a).0 (from-filter (λ k. not (is_long s (chosen k))) ks k b).0 e))
+            (no_more same_name same_name_tells (map (λ k. g (name k)) (filter (λ k. not (is_long s (chosen k))) ks)) (filter (λ x. not (is_long s (length x))) free)
+            (different_map (λ k. g (name k)) (filter (λ k. not (is_long s (chosen k))) ks) (PairsOf_filter (λ x y. x ≡ y → ⊥) (λ k. not (is_long s (chosen k))) ks (count_apart slotted 0))
+            (λ j k a b e. one_choice j k (from_filter (λ k. not (is_long s (chosen k))) ks j a).0 (from_filter (λ k. not (is_long s (chosen k))) ks k b).0 e))
             (λ x a.
-            let w : (k : ℕ) × In k (filter (λ k. not (is_long s (chosen k))) ks) × (g (name k) ≡ x) = from-map (λ k. g (name k)) (filter (λ k. not (is_long s (chosen k))) ks) x a in
-            let f : In w.0 ks × (not (is_long s (chosen w.0)) ≡ true) = from-filter (λ k. not (is_long s (chosen k))) ks w.0 w.1 in
+            let w : (k : ℕ) × In k (filter (λ k. not (is_long s (chosen k))) ks) × (g (name k) ≡ x) = from_map (λ k. g (name k)) (filter (λ k. not (is_long s (chosen k))) ks) x a in
+            let f : In w.0 ks × (not (is_long s (chosen w.0)) ≡ true) = from_filter (λ k. not (is_long s (chosen k))) ks w.0 w.1 in
             subst (λ (y : Text). In y (filter (λ x. not (is_long s (length x))) free)) w.2
-            (in-filter (λ x. not (is_long s (length x))) free (g (name w.0))
-            (shorter_free (g (name w.0)) (name l) (choice.free (name w.0) (contains_from_in (changed_names o t u) (name w.0) (in_use w.0 f.0))) (given_name_in o t l (below l i)) (no_longer w.0 (not_told _ f.1)))
+            (in_filter (λ x. not (is_long s (length x))) free (g (name w.0))
+            (shorter_free (g (name w.0)) (name l) (choice.free (name w.0) (contains_from_in (changed_names o t u) (name w.0) (in_use w.0 f.0))) (given_name_in o t l (below l i)) (no_longer w.0 (not-true _ f.1)))
             f.1)))
 
     shortest : (w : Parts) → changed_names o t w ≡ map g (changed_names o t u) → cost o t u ≤ cost o t w

@@ -3,17 +3,17 @@ use Rattle.std.specs.Prelude.{◌≡◌, ◌≤◌, ◌<◌, ℕ, zero, suc, ◌
 use Rattle.std.specs.List.{list_all, list_any}
 use Rattle.std.proofs.Common.{refl, sym, ap, ◌∙◌, arith}
 use Rattle.std.proofs.lemmas.Bool.{and_parts, both_ways, eqb-true}
-use Rattle.name_rules.proofs.Bounds.{found_at}
+use Rattle.list_laws.proofs.AnyOf.{any_some}
 use Rattle.name_rules.specs.FreeNames.{is_spelled}
 use Rattle.name_rules.specs.Open.{all_open}
 use Rattle.name_rules.specs.ShortNames.{characters, more_characters, short}
 use Rattle.tree_nodes.specs.Tree.{Text}
-use Rattle.scope_rules.proofs.Lists.{In, any-some}
+use Rattle.list_laws.proofs.Members.{In, found_at}
 
 -- where a listed character stands
 standing : (xs : Text) (c : ℕ) → list_any (nat_eq c) xs ≡ true → (p : ℕ) × (p < length xs) × (get_or xs p 0 ≡ c)
 standing xs c h =
-    let w : (d : ℕ) × In d xs × (nat_eq c d ≡ true) = any-some (nat_eq c) xs h in
+    let w : (d : ℕ) × In d xs × (nat_eq c d ≡ true) = any_some (nat_eq c) xs h in
     let f : (p : ℕ) × (p < length xs) × (get_or xs p 0 ≡ w.0) = found_at xs w.0 0 w.1 in
     (f.0, f.1, f.2 ∙ sym (eqb-true c w.0 w.2))
 

@@ -2,14 +2,15 @@
 use Rattle.std.specs.Prelude.{nat_eq, take, get_or, ◌≡◌, ◌⊎◌, ◌≤◌, ◌<◌, ℕ, zero, suc, ◌+◌, ◌*◌, ◌-◌, ◌/◌, ◌%◌, Bool, true, false, cond, ◌||◌, ◌&&◌, nat_lt, List, [], ◌∷◌, ◌++◌, length, map}
 use Rattle.std.specs.List.{list_all, list_any}
 use Rattle.std.proofs.Common.{refl, sym, ap, ◌∙◌, subst, arith, inl, inr}
-use Rattle.std.proofs.lemmas.Bool.{agree_below_at, or_cases, and_from, and_parts}
+use Rattle.std.proofs.lemmas.Bool.{agree_below_at, or_cases, and_from, and_parts, both_ways}
 use Rattle.std.proofs.lemmas.List.{length-append, length-map}
+use Rattle.list_laws.proofs.AnyOf.{any_some}
+use Rattle.list_laws.proofs.PairsOf.{PairsOf}
+use Rattle.scope_rules.proofs.SameNames.{same_name_tells, among_in}
 use Rattle.syntax_lex.specs.Keyword.{is_reserved_keyword, reserved_keywords}
-use Rattle.name_rules.proofs.Counting.{no_more}
-use Rattle.name_rules.proofs.Given.{in-left, in-map, in-right, tells}
+use Rattle.list_laws.proofs.Counting.{no_more}
 use Rattle.name_rules.proofs.Numbered.{short_is_one_to_one}
-use Rattle.name_rules.proofs.Passing.{among-in}
-use Rattle.name_rules.proofs.Runs.{of-each}
+use Rattle.list_laws.proofs.AllOf.{of_each}
 use Rattle.name_rules.specs.FreeNames.{first_untaken, is_spelled, is_taken, is_unchanged}
 use Rattle.name_rules.specs.GivenNames.{free_names}
 use Rattle.name_rules.specs.Groups.{Member}
@@ -18,8 +19,8 @@ use Rattle.name_rules.specs.Open.{all_open}
 use Rattle.name_rules.specs.Options.{Options}
 use Rattle.name_rules.specs.ShortNames.{candidate, characters, digits_onto, more_characters, readable_name}
 use Rattle.tree_nodes.specs.Tree.{Text}
-use Rattle.tree_places.proofs.Runs.{AllOf, PairsOf}
-use Rattle.scope_rules.proofs.Lists.{In, any-some}
+use Rattle.list_laws.proofs.AllOf.{AllOf}
+use Rattle.list_laws.proofs.Members.{In, in_left, in_map, in_right}
 use Rattle.scope_rules.specs.Bindings.{same_name}
 use Rattle.scope_rules.specs.Evals.{name_eval}
 
@@ -61,6 +62,21 @@ candidate_one true m n e = readable_one m n e
 candidate_one false m n e = short_is_one_to_one m n e
 
 -- ---- the first that aren't taken
+
+-- two tests that answer first_untaken_same find the same
+pub first_untaken_same : (name : ℕ → Text) (p q : Text → Bool) → ((x : Text) → p x ≡ q x) → (fuel n k : ℕ) → first_untaken name p fuel n k ≡ first_untaken name q fuel n k
+unfolding all_open
+first_untaken_same name p q h zero n k = refl
+first_untaken_same name p q h (suc fuel) zero k = refl
+first_untaken_same name p q h (suc fuel) (suc n) k = go (p (name k)) (q (name k)) (h (name k)) (first_untaken_same name p q h fuel (suc n) (suc k)) (first_untaken_same name p q h fuel n (suc k))
+  where
+    go : (a b : Bool) → a ≡ b → first_untaken name p fuel (suc n) (suc k) ≡ first_untaken name q fuel (suc n) (suc k) → first_untaken name p fuel n (suc k) ≡ first_untaken name q fuel n (suc k)
+        → elim a as (λ c. List Text) [ true ↦ first_untaken name p fuel (suc n) (suc k) | false ↦ name k ∷ first_untaken name p fuel n (suc k) ]
+        ≡ elim b as (λ c. List Text) [ true ↦ first_untaken name q fuel (suc n) (suc k) | false ↦ name k ∷ first_untaken name q fuel n (suc k) ]
+    go true true e ih jh = ih
+    go false false e ih jh = ap (λ (xs : List Text). name k ∷ xs) jh
+    go true false e ih jh = absurd (both_ways true e refl)
+    go false true e ih jh = absurd (both_ways false refl e)
 
 module _ (name : ℕ → Text) (one : (m n : ℕ) → name m ≡ name n → m ≡ n) (taken : Text → Bool) where
   all-untaken : (fuel n k : ℕ) → AllOf (λ x. taken x ≡ false) (first_untaken name taken fuel n k)
@@ -176,7 +192,7 @@ module _ (name : ℕ → Text) (one : (m n : ℕ) → name m ≡ name n → m �
   enough listed f fuel n k h = go (scan fuel n k)
     where
       few : length (passed fuel n k) ≤ length listed
-      few = no_more same_name tells (passed fuel n k) listed (passed-different fuel n k) (λ x i. f x (of-each (λ y. taken y ≡ true) (passed fuel n k) x (passed-taken fuel n k) i))
+      few = no_more same_name same_name_tells (passed fuel n k) listed (passed-different fuel n k) (λ x i. f x (of_each (λ y. taken y ≡ true) (passed fuel n k) x (passed-taken fuel n k) i))
 
       go : (length (first_untaken name taken fuel n k) ≡ n) ⊎ ((fuel ≤ length (passed fuel n k) + length (first_untaken name taken fuel n k)) × (length (first_untaken name taken fuel n k) < n)) → length (first_untaken name taken fuel n k) ≡ n
       go (inl e) = e
@@ -193,30 +209,30 @@ unfolding all_open all_taken
 taken-listed o ms x h = first (or_cases _ _ h)
   where
     past : In x (name_eval ∷ name_arguments ∷ (o.reserved ++ map (λ (m : Member). m.place.name) ms)) → In x (reserved_keywords ++ (name_eval ∷ name_arguments ∷ (o.reserved ++ map (λ (m : Member). m.place.name) ms)))
-    past i = in-right reserved_keywords (name_eval ∷ name_arguments ∷ (o.reserved ++ map (λ (m : Member). m.place.name) ms)) x i
+    past i = in_right reserved_keywords (name_eval ∷ name_arguments ∷ (o.reserved ++ map (λ (m : Member). m.place.name) ms)) x i
 
     keyword : is_reserved_keyword x ≡ true → In x (reserved_keywords ++ (name_eval ∷ name_arguments ∷ (o.reserved ++ map (λ (m : Member). m.place.name) ms)))
-    keyword k = let w : (y : Text) × In y reserved_keywords × (same_name y x ≡ true) = any-some (λ y. same_name y x) reserved_keywords k in
-        in-left reserved_keywords (name_eval ∷ name_arguments ∷ (o.reserved ++ map (λ (m : Member). m.place.name) ms)) x (subst (λ (y : Text). In y reserved_keywords) ((tells w.0 x).0 w.2) w.1)
+    keyword k = let w : (y : Text) × In y reserved_keywords × (same_name y x ≡ true) = any_some (λ y. same_name y x) reserved_keywords k in
+        in_left reserved_keywords (name_eval ∷ name_arguments ∷ (o.reserved ++ map (λ (m : Member). m.place.name) ms)) x (subst (λ (y : Text). In y reserved_keywords) ((same_name_tells w.0 x).0 w.2) w.1)
 
     reserved : (same_name x name_arguments ≡ true) ⊎ (list_any (same_name x) o.reserved ≡ true) → In x (reserved_keywords ++ (name_eval ∷ name_arguments ∷ (o.reserved ++ map (λ (m : Member). m.place.name) ms)))
-    reserved (inl e) = past (inr (inl (sym ((tells x name_arguments).0 e))))
-    reserved (inr e) = past (inr (inr (in-left o.reserved (map (λ (m : Member). m.place.name) ms) x (among-in o.reserved x e))))
+    reserved (inl e) = past (inr (inl (sym ((same_name_tells x name_arguments).0 e))))
+    reserved (inr e) = past (inr (inr (in_left o.reserved (map (λ (m : Member). m.place.name) ms) x (among_in o.reserved x e))))
 
     third : ((is_reserved_keyword x || same_name x name_eval) ≡ true) ⊎ (is_reserved o x ≡ true) → In x (reserved_keywords ++ (name_eval ∷ name_arguments ∷ (o.reserved ++ map (λ (m : Member). m.place.name) ms)))
     third (inl e) = second (or_cases _ _ e)
       where
         second : (is_reserved_keyword x ≡ true) ⊎ (same_name x name_eval ≡ true) → In x (reserved_keywords ++ (name_eval ∷ name_arguments ∷ (o.reserved ++ map (λ (m : Member). m.place.name) ms)))
         second (inl k) = keyword k
-        second (inr k) = past (inl (sym ((tells x name_eval).0 k)))
+        second (inr k) = past (inl (sym ((same_name_tells x name_eval).0 k)))
     third (inr e) = reserved (or_cases _ _ e)
 
     first : ((is_reserved_keyword x || same_name x name_eval || is_reserved o x) ≡ true) ⊎ (list_any (λ m. is_unchanged m && same_name m.place.name x) ms ≡ true) → In x (reserved_keywords ++ (name_eval ∷ name_arguments ∷ (o.reserved ++ map (λ (m : Member). m.place.name) ms)))
     first (inl e) = third (or_cases _ _ e)
     first (inr e) =
-        let w : (m : Member) × In m ms × ((is_unchanged m && same_name m.place.name x) ≡ true) = any-some (λ m. is_unchanged m && same_name m.place.name x) ms e in
-        past (inr (inr (in-right o.reserved (map (λ (m : Member). m.place.name) ms) x
-        (subst (λ (y : Text). In y (map (λ (m : Member). m.place.name) ms)) ((tells w.0.place.name x).0 (and_parts _ _ w.2).1) (in-map (λ (m : Member). m.place.name) ms w.0 w.1)))))
+        let w : (m : Member) × In m ms × ((is_unchanged m && same_name m.place.name x) ≡ true) = any_some (λ m. is_unchanged m && same_name m.place.name x) ms e in
+        past (inr (inr (in_right o.reserved (map (λ (m : Member). m.place.name) ms) x
+        (subst (λ (y : Text). In y (map (λ (m : Member). m.place.name) ms)) ((same_name_tells w.0.place.name x).0 (and_parts _ _ w.2).1) (in_map (λ (m : Member). m.place.name) ms w.0 w.1)))))
 
 -- ---- the free names of a tree
 

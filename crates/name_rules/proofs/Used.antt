@@ -3,10 +3,12 @@ use Rattle.std.specs.Prelude.{◌≡◌, ◌⊎◌, ◌≤◌, ◌<◌, ℕ, suc
 use Rattle.std.specs.List.{list_any}
 use Rattle.std.proofs.Common.{refl, sym, ap, ◌∙◌, subst, arith, inl, inr}
 use Rattle.std.proofs.lemmas.Bool.{eq-eqb, eqb-true, cases_order, ne_eqb}
+use Rattle.list_laws.proofs.AnyOf.{any_from, any_some}
+use Rattle.list_laws.proofs.PairsOf.{PairsOf_filter, PairsOf, PairsOf_map, PairsOf_append_members}
+use Rattle.scope_rules.proofs.PlacesRise.{one_of_number, places_rise, above}
 use Rattle.name_rules.proofs.Fewest.{below-missing, slotted-groups}
-use Rattle.name_rules.proofs.Given.{from-append, from-filter, from-groups, from-map, in-left, in-right, member_at, members-at, one_of, places_rise}
-use Rattle.name_rules.proofs.Runs.{of-each}
-use Rattle.name_rules.proofs.SlotNamed.{filter-apart}
+use Rattle.name_rules.proofs.Given.{from-groups, member_at, members-at}
+use Rattle.list_laws.proofs.AllOf.{of_each}
 use Rattle.name_rules.specs.Groups.{Group, Member, greatest, group_led_by, groups, groups_of, is_live, leads, members}
 use Rattle.name_rules.specs.Open.{all_open}
 use Rattle.name_rules.specs.Options.{Options}
@@ -14,12 +16,11 @@ use Rattle.name_rules.specs.Slots.{Slotted, number_of_slots, slot_after, slot_of
 use Rattle.tree_nodes.specs.Tree.{Parts}
 use Rattle.tree_places.proofs.Outwards.{same-eq}
 use Rattle.tree_places.proofs.Rising.{numbers_rise}
-use Rattle.tree_places.proofs.Runs.{AllOf, AllOf-push, PairsOf}
+use Rattle.list_laws.proofs.AllOf.{AllOf, AllOf_push}
 use Rattle.tree_places.specs.Laws.{AreNumbered, RiseFrom}
 use Rattle.tree_places.specs.Places.{Place, places, scopes}
 use Rattle.tree_places.specs.Scopes.{Scope, same_scope}
-use Rattle.scope_rules.proofs.Lists.{In, any-from, any-some}
-use Rattle.scope_rules.proofs.Stay.{above}
+use Rattle.list_laws.proofs.Members.{In, from_append, from_filter, from_map, in_left, in_right}
 use Rattle.scope_rules.specs.Bindings.{node}
 use Rattle.scope_rules.specs.Homes.{home}
 
@@ -33,8 +34,8 @@ Filled bs xs = AllOf (λ d. (j : ℕ) → j < d.slot → Has bs j) xs
 
 has-more : (bs : List Slotted) (c : Slotted) (j : ℕ) → Has bs j → Has (bs ++ c ∷ []) j
 unfolding all_open
-has-more bs c j h = let w : (b : Slotted) × In b bs × (nat_eq j b.slot ≡ true) = any-some (λ (b : Slotted). nat_eq j b.slot) bs h in
-    any-from (λ (b : Slotted). nat_eq j b.slot) (bs ++ c ∷ []) w.0 (in-left bs (c ∷ []) w.0 w.1) w.2
+has-more bs c j h = let w : (b : Slotted) × In b bs × (nat_eq j b.slot ≡ true) = any_some (λ (b : Slotted). nat_eq j b.slot) bs h in
+    any_from (λ (b : Slotted). nat_eq j b.slot) (bs ++ c ∷ []) w.0 (in_left bs (c ∷ []) w.0 w.1) w.2
 
 filled-more : (bs : List Slotted) (c : Slotted) (xs : List Slotted) → Filled bs xs → Filled (bs ++ c ∷ []) xs
 unfolding all_open
@@ -46,13 +47,13 @@ unfolding all_open
 filled-after ms bs [] a = a
 filled-after ms bs (g ∷ gs) a =
     let c : Slotted = record { group = g; slot = slot_after ms bs g } in
-    filled-after ms (bs ++ c ∷ []) gs (AllOf-push (λ d. (j : ℕ) → j < d.slot → Has (bs ++ c ∷ []) j) bs c (filled-more bs c bs a)
+    filled-after ms (bs ++ c ∷ []) gs (AllOf_push (λ d. (j : ℕ) → j < d.slot → Has (bs ++ c ∷ []) j) bs c (filled-more bs c bs a)
     (λ j h.
     let live : List ℕ = slots_live ms bs g.home in
     let k : list_any (nat_eq j) live ≡ true = below-missing (suc (greatest live)) live 0 j (omega arith) h in
-    let w : (s : ℕ) × In s live × (nat_eq j s ≡ true) = any-some (nat_eq j) live k in
-    let b : (b : Slotted) × In b (filter (λ b. is_live ms g.home b.group) bs) × (b.slot ≡ w.0) = from-map (λ (b : Slotted). b.slot) (filter (λ b. is_live ms g.home b.group) bs) w.0 w.1 in
-    any-from (λ (b : Slotted). nat_eq j b.slot) (bs ++ c ∷ []) b.0 (in-left bs (c ∷ []) b.0 (from-filter (λ (b : Slotted). is_live ms g.home b.group) bs b.0 b.1).0)
+    let w : (s : ℕ) × In s live × (nat_eq j s ≡ true) = any_some (nat_eq j) live k in
+    let b : (b : Slotted) × In b (filter (λ b. is_live ms g.home b.group) bs) × (b.slot ≡ w.0) = from_map (λ (b : Slotted). b.slot) (filter (λ b. is_live ms g.home b.group) bs) w.0 w.1 in
+    any_from (λ (b : Slotted). nat_eq j b.slot) (bs ++ c ∷ []) b.0 (in_left bs (c ∷ []) b.0 (from_filter (λ (b : Slotted). is_live ms g.home b.group) bs b.0 b.1).0)
     (eq-eqb j b.0.slot (eqb-true j w.0 w.2 ∙ sym b.2))))
 
 -- each is at most the slot of some group
@@ -75,8 +76,8 @@ slot_used o t k h =
     go : (d : Slotted) → In d (slots_of o t) → (k ≡ d.slot) ⊎ ((k < d.slot) ⊎ (d.slot < k)) → k ≤ d.slot → (d : Slotted) × In d (slots_of o t) × (d.slot ≡ k)
     go d i (inl e) m = (d, i, sym e)
     go d i (inr (inl l)) m =
-        let f : Has (slots_of o t) k = of-each (λ (d : Slotted). (j : ℕ) → j < d.slot → Has (slots_of o t) j) (slots_of o t) d (filled-after (members o t) [] (groups_of o t) tt) i k l in
-        let w : (b : Slotted) × In b (slots_of o t) × (nat_eq k b.slot ≡ true) = any-some (λ (b : Slotted). nat_eq k b.slot) (slots_of o t) f in
+        let f : Has (slots_of o t) k = of_each (λ (d : Slotted). (j : ℕ) → j < d.slot → Has (slots_of o t) j) (slots_of o t) d (filled-after (members o t) [] (groups_of o t) tt) i k l in
+        let w : (b : Slotted) × In b (slots_of o t) × (nat_eq k b.slot ≡ true) = any_some (λ (b : Slotted). nat_eq k b.slot) (slots_of o t) f in
         (w.0, w.1, sym (eqb-true k w.0.slot w.2))
     go d i (inr (inr l)) m = absurd (omega (arith, l, m))
 
@@ -94,37 +95,19 @@ places-apart n (p ∷ ps) r = (each ps (λ q i. above (suc (node p)) ps q r.1 i)
     each [] f = tt
     each (q ∷ qs) f = ((λ e. let h : suc (node p) ≤ node q = f q (inl refl) in omega (arith, h, e)), each qs (λ x i. f x (inr i)))
 
-map-pairs : {X Y : Type 0} (R : X → X → Type 0) (S : Y → Y → Type 0) (f : X → Y) → ((x y : X) → R x y → S (f x) (f y)) → (xs : List X) → PairsOf R xs → PairsOf S (map f xs)
-map-pairs R S f g [] p = tt
-map-pairs {X} {Y} R S f g (x ∷ xs) p = (each xs p.0, map-pairs R S f g xs p.1)
-  where
-    each : (ys : List X) → AllOf (R x) ys → AllOf (S (f x)) (map f ys)
-    each [] a = tt
-    each (y ∷ ys) a = (g x y a.0, each ys a.1)
 
-append-pairs : {X : Type 0} (R : X → X → Type 0) (xs ys : List X) → PairsOf R xs → PairsOf R ys → ((x y : X) → In x xs → In y ys → R x y) → PairsOf R (xs ++ ys)
-append-pairs R [] ys p q f = q
-append-pairs {X} R (x ∷ xs) ys p q f = (both xs p.0 (λ y i. f x y (inl refl) i), append-pairs R xs ys p.1 q (λ w y i j. f w y (inr i) j))
-  where
-    all : (zs : List X) → ((y : X) → In y zs → R x y) → AllOf (R x) zs
-    all [] g = tt
-    all (z ∷ zs) g = (g z (inl refl), all zs (λ y i. g y (inr i)))
-
-    both : (zs : List X) → AllOf (R x) zs → ((y : X) → In y ys → R x y) → AllOf (R x) (zs ++ ys)
-    both [] a g = all ys g
-    both (z ∷ zs) a g = (a.0, both zs a.1 g)
 
 -- the groups at a scope, and at those after it
 from-scope : (ms : List Member) (s : Scope) (g : Group) → In g (map group_led_by (filter (λ m. same_scope (home m.place.site) s) (filter leads ms))) → g.home ≡ s
 unfolding all_open
 from-scope ms s g i =
-    let w : (m : Member) × In m (filter (λ m. same_scope (home m.place.site) s) (filter leads ms)) × (group_led_by m ≡ g) = from-map group_led_by (filter (λ m. same_scope (home m.place.site) s) (filter leads ms)) g i in
-    ap (λ (x : Group). x.home) (sym w.2) ∙ same-eq (home w.0.place.site) s (from-filter (λ m. same_scope (home m.place.site) s) (filter leads ms) w.0 w.1).1
+    let w : (m : Member) × In m (filter (λ m. same_scope (home m.place.site) s) (filter leads ms)) × (group_led_by m ≡ g) = from_map group_led_by (filter (λ m. same_scope (home m.place.site) s) (filter leads ms)) g i in
+    ap (λ (x : Group). x.home) (sym w.2) ∙ same-eq (home w.0.place.site) s (from_filter (λ m. same_scope (home m.place.site) s) (filter leads ms) w.0 w.1).1
 
 from-scopes : (ms : List Member) (ss : List Scope) (g : Group) → In g (groups ss ms) → In g.home ss
 unfolding all_open
 from-scopes ms [] g i = absurd i
-from-scopes ms (s ∷ ss) g i = go (from-append (map group_led_by (filter (λ m. same_scope (home m.place.site) s) (filter leads ms))) (groups ss ms) g i) (from-scopes ms ss g)
+from-scopes ms (s ∷ ss) g i = go (from_append (map group_led_by (filter (λ m. same_scope (home m.place.site) s) (filter leads ms))) (groups ss ms) g i) (from-scopes ms ss g)
   where
     go : In g (map group_led_by (filter (λ m. same_scope (home m.place.site) s) (filter leads ms))) ⊎ In g (groups ss ms) → (In g (groups ss ms) → In g.home ss) → (s ≡ g.home) ⊎ In g.home ss
     go (inl j) ih = inl (sym (from-scope ms s g j))
@@ -137,34 +120,34 @@ module _ (o : Options) (t : Parts) where
   one_home g h i j e =
       let m : (m : Member) × In m (members o t) × (group_led_by m ≡ g) = from-groups o t (scopes t) (members o t) g i in
       let n : (m : Member) × In m (members o t) × (group_led_by m ≡ h) = from-groups o t (scopes t) (members o t) h j in
-      let p : (p : Place) × In p (places t) × (member_at o t p ≡ m.0) = from-map (member_at o t) (places t) m.0 (subst (In m.0) (members-at o t) m.1) in
-      let q : (p : Place) × In p (places t) × (member_at o t p ≡ n.0) = from-map (member_at o t) (places t) n.0 (subst (In n.0) (members-at o t) n.1) in
+      let p : (p : Place) × In p (places t) × (member_at o t p ≡ m.0) = from_map (member_at o t) (places t) m.0 (subst (In m.0) (members-at o t) m.1) in
+      let q : (p : Place) × In p (places t) × (member_at o t p ≡ n.0) = from_map (member_at o t) (places t) n.0 (subst (In n.0) (members-at o t) n.1) in
       let mp : m.0.place ≡ p.0 = sym (ap (λ (x : Member). x.place) p.2) in
       let nq : n.0.place ≡ q.0 = sym (ap (λ (x : Member). x.place) q.2) in
-      let same : p.0 ≡ q.0 = one_of t p.0 q.0 p.1 q.1 (sym (ap node mp) ∙ ap (λ (x : Group). x.leader) m.2 ∙ e ∙ sym (ap (λ (x : Group). x.leader) n.2) ∙ ap node nq) in
+      let same : p.0 ≡ q.0 = one_of_number t p.0 q.0 p.1 q.1 (sym (ap node mp) ∙ ap (λ (x : Group). x.leader) m.2 ∙ e ∙ sym (ap (λ (x : Group). x.leader) n.2) ∙ ap node nq) in
       sym (ap (λ (x : Group). x.home) m.2) ∙ ap (λ (x : Place). home x.site) (mp ∙ same ∙ sym nq) ∙ ap (λ (x : Group). x.home) n.2
 
   members-apart : PairsOf (λ m n. node m.place ≡ node n.place → ⊥) (members o t)
   unfolding all_open member_at
   members-apart = subst (PairsOf (λ (m n : Member). node m.place ≡ node n.place → ⊥)) (sym (members-at o t))
-      (map-pairs (λ p q. node p ≡ node q → ⊥) (λ (m n : Member). node m.place ≡ node n.place → ⊥) (member_at o t) (λ p q f. f) (places t) (places-apart 0 (places t) (places_rise t)))
+      (PairsOf_map (λ p q. node p ≡ node q → ⊥) (λ (m n : Member). node m.place ≡ node n.place → ⊥) (member_at o t) (λ p q f. f) (places t) (places-apart 0 (places t) (places_rise t)))
 
   scope-apart : (s : Scope) → PairsOf Apart_groups (map group_led_by (filter (λ m. same_scope (home m.place.site) s) (filter leads (members o t))))
   unfolding all_open
-  scope-apart s = map-pairs (λ (m n : Member). node m.place ≡ node n.place → ⊥) Apart_groups group_led_by (λ m n f. f) (filter (λ m. same_scope (home m.place.site) s) (filter leads (members o t)))
-      (filter-apart (λ (m n : Member). node m.place ≡ node n.place → ⊥) (λ m. same_scope (home m.place.site) s) (filter leads (members o t))
-      (filter-apart (λ (m n : Member). node m.place ≡ node n.place → ⊥) leads (members o t) members-apart))
+  scope-apart s = PairsOf_map (λ (m n : Member). node m.place ≡ node n.place → ⊥) Apart_groups group_led_by (λ m n f. f) (filter (λ m. same_scope (home m.place.site) s) (filter leads (members o t)))
+      (PairsOf_filter (λ (m n : Member). node m.place ≡ node n.place → ⊥) (λ m. same_scope (home m.place.site) s) (filter leads (members o t))
+      (PairsOf_filter (λ (m n : Member). node m.place ≡ node n.place → ⊥) leads (members o t) members-apart))
 
   groups-apart : (ss : List Scope) → PairsOf (λ r s. r ≡ s → ⊥) ss → ((g : Group) → In g (groups ss (members o t)) → In g (groups_of o t)) → PairsOf Apart_groups (groups ss (members o t))
   unfolding all_open
   groups-apart [] p f = tt
   groups-apart (s ∷ ss) p f =
       let here : List Group = map group_led_by (filter (λ m. same_scope (home m.place.site) s) (filter leads (members o t))) in
-      append-pairs Apart_groups here (groups ss (members o t)) (scope-apart s)
-      (groups-apart ss p.1 (λ g i. f g (in-right here (groups ss (members o t)) g i)))
+      PairsOf_append_members Apart_groups here (groups ss (members o t)) (scope-apart s)
+      (groups-apart ss p.1 (λ g i. f g (in_right here (groups ss (members o t)) g i)))
       (λ g h i j e.
-      let gh : g.home ≡ h.home = one_home g h (f g (in-left here (groups ss (members o t)) g i)) (f h (in-right here (groups ss (members o t)) h j)) e in
-      of-each (λ r. s ≡ r → ⊥) ss h.home p.0 (from-scopes (members o t) ss h j) (sym (from-scope (members o t) s g i) ∙ gh))
+      let gh : g.home ≡ h.home = one_home g h (f g (in_left here (groups ss (members o t)) g i)) (f h (in_right here (groups ss (members o t)) h j)) e in
+      of_each (λ r. s ≡ r → ⊥) ss h.home p.0 (from-scopes (members o t) ss h j) (sym (from-scope (members o t) s g i) ∙ gh))
 
   -- scopes are all different, since their numbers rise
   scopes-apart : (before ss : List Scope) → AreNumbered before ss → PairsOf (λ r s. r ≡ s → ⊥) ss
@@ -210,7 +193,7 @@ module _ (o : Options) (t : Parts) where
         where
           at : (e ≡ d) ⊎ In d es → (In d es → find (λ b. nat_eq b.group.leader d.group.leader) es ≡ Some d) → cond (nat_eq e.group.leader d.group.leader) (Some e) (find (λ b. nat_eq b.group.leader d.group.leader) es) ≡ Some d
           at (inl q) ih = ap (λ b. cond b (Some e) (find (λ b. nat_eq b.group.leader d.group.leader) es)) (eq-eqb e.group.leader d.group.leader (ap (λ (x : Slotted). x.group.leader) q)) ∙ ap Some q
-          at (inr k) ih = ap (λ b. cond b (Some e) (find (λ b. nat_eq b.group.leader d.group.leader) es)) (apart_told e.group.leader d.group.leader (of-each (λ (x : Slotted). e.group.leader ≡ x.group.leader → ⊥) es d p.0 k)) ∙ ih k
+          at (inr k) ih = ap (λ b. cond b (Some e) (find (λ b. nat_eq b.group.leader d.group.leader) es)) (apart_told e.group.leader d.group.leader (of_each (λ (x : Slotted). e.group.leader ≡ x.group.leader → ⊥) es d p.0 k)) ∙ ih k
             where
               apart_told : (m n : ℕ) → (m ≡ n → ⊥) → nat_eq m n ≡ false
               apart_told m n f = ne_eqb m n f

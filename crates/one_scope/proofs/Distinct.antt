@@ -3,11 +3,13 @@ use Rattle.std.specs.Prelude.{◌≡◌, ◌≤◌, ℕ, suc, ◌+◌, Bool, tru
 use Rattle.std.specs.List.{position_from}
 use Rattle.std.proofs.Common.{refl, sym, ap, ◌∙◌, arith}
 use Rattle.std.proofs.lemmas.Bool.{or_parts, both_ways}
+use Rattle.scope_rules.proofs.SameNames.{distinct_after_most}
+use Rattle.list_laws.proofs.PairsOf.{PairsOf, PairsOf_filter}
 use Rattle.one_scope.proofs.Texts.{same_is, same_sym}
 use Rattle.one_scope.specs.Flat.{flat_slot}
 use Rattle.one_scope.specs.Open.{all_open}
 use Rattle.tree_nodes.specs.Tree.{Text}
-use Rattle.tree_places.proofs.Runs.{AllOf, PairsOf}
+use Rattle.list_laws.proofs.AllOf.{AllOf}
 use Rattle.scope_rules.specs.Bindings.{or_else}
 use Rattle.scope_rules.specs.PrivateNames.{distinct, distinct_after, is_among}
 
@@ -45,9 +47,6 @@ among_distinct xs x = among_after [] xs x refl
 
 -- ---- one name more
 
-nothing_or : (b : Bool) → (b || false) ≡ b
-nothing_or true = refl
-nothing_or false = refl
 
 or_over : (a b c : Bool) → ((a || b) || c) ≡ (b || (a || c))
 or_over true true c = refl
@@ -144,46 +143,16 @@ after_apart before (y ∷ ys) = go (is_among before y) (after_apart before ys) (
     go true ih jh a = ih
     go false ih jh a = (a, jh)
 
-all_filter : {X : Type 0} (P : X → Type 0) (test : X → Bool) (xs : List X) → AllOf P xs → AllOf P (filter test xs)
-all_filter P test [] h = tt
-all_filter {X} P test (x ∷ xs) h = go (test x) h.0 (all_filter P test xs h.1)
-  where
-    go : (b : Bool) → P x → AllOf P (filter test xs) → AllOf P (cond b (x ∷ filter test xs) (filter test xs))
-    go true p ih = (p, ih)
-    go false p ih = ih
 
-pairs_filter : {X : Type 0} (R : X → X → Type 0) (test : X → Bool) (xs : List X) → PairsOf R xs → PairsOf R (filter test xs)
-pairs_filter R test [] h = tt
-pairs_filter {X} R test (x ∷ xs) h = go (test x) (all_filter (R x) test xs h.0) (pairs_filter R test xs h.1)
-  where
-    go : (b : Bool) → AllOf (R x) (filter test xs) → PairsOf R (filter test xs) → PairsOf R (cond b (x ∷ filter test xs) (filter test xs))
-    go true a ih = (a, ih)
-    go false a ih = ih
 
 pub distinct_apart : (test : Text → Bool) (xs : List Text) → AllApart (filter test (distinct xs))
 unfolding all_open
-distinct_apart test xs = pairs_filter (λ x y. bytes_eq x y ≡ false) test (distinct xs) (after_apart [] xs)
+distinct_apart test xs = PairsOf_filter (λ x y. bytes_eq x y ≡ false) test (distinct xs) (after_apart [] xs)
 
 -- ---- they are no more than the names
 
-pub filter_less : {X : Type 0} (test : X → Bool) (xs : List X) → length (filter test xs) ≤ length xs
-filter_less test [] = omega arith
-filter_less {X} test (x ∷ xs) = go (test x) (filter_less test xs)
-  where
-    go : (b : Bool) → length (filter test xs) ≤ length xs → length (cond b (x ∷ filter test xs) (filter test xs)) ≤ suc (length xs)
-    go true ih = omega (arith, ih)
-    go false ih = omega (arith, ih)
 
-after_less : (before xs : List Text) → length (distinct_after before xs) ≤ length xs
-unfolding all_open
-after_less before [] = omega arith
-after_less before (y ∷ ys) = go (is_among before y) (after_less before ys) (after_less (y ∷ before) ys)
-  where
-    go : (b : Bool) → length (distinct_after before ys) ≤ length ys → length (distinct_after (y ∷ before) ys) ≤ length ys
-        → length (elim b as (λ c. List Text) [ true ↦ distinct_after before ys | false ↦ y ∷ distinct_after (y ∷ before) ys ]) ≤ suc (length ys)
-    go true ih jh = omega (arith, ih)
-    go false ih jh = omega (arith, jh)
 
 pub distinct_less : (xs : List Text) → length (distinct xs) ≤ length xs
 unfolding all_open
-distinct_less xs = after_less [] xs
+distinct_less xs = distinct_after_most [] xs

@@ -12,7 +12,7 @@ use Rattle.tree_nodes.specs.declared.table.Declared.TheVariants.{Class, ClassNam
 use Rattle.tree_nodes.specs.declared.table.Role.{Role}
 use Rattle.tree_nodes.specs.declared.table.Role.TheVariants.{Called, Declares, Read}
 use Rattle.tree_places.specs.Places.{Site, Value, no_value, other_value}
-use Rattle.scope_rules.proofs.Lists.{In, any-same}
+use Rattle.list_laws.proofs.Members.{In}
 use Rattle.scope_rules.specs.Faults.{is_plain_function}
 use Rattle.scope_rules.specs.Homes.{declares, declares_plainly, home, is_declaring, is_function_name, is_joinable, is_reference, is_var, joins, lies_in_var_scope, names_function, refers}
 
@@ -26,12 +26,7 @@ pub and_yes : (b : Bool) → (b && true) ≡ b
 and_yes true = refl
 and_yes false = refl
 
-never : {X : Type 0} (xs : List X) → list_any (λ x. false) xs ≡ false
-never [] = refl
-never (x ∷ xs) = never xs
 
-pub any_none : {X : Type 0} (test : X → Bool) (xs : List X) → ((x : X) → In x xs → test x ≡ false) → list_any test xs ≡ false
-any_none test xs h = any-same test (λ x. false) xs h ∙ never xs
 
 -- ---- of the roles at flat sites
 

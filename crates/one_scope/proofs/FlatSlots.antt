@@ -4,13 +4,15 @@ use Rattle.std.specs.List.{list_any, position_from}
 use Rattle.std.proofs.Common.{refl, sym, ap, ◌∙◌, subst, arith, inl, inr}
 use Rattle.std.proofs.lemmas.Bool.{or_left, or_right, cases_order, eq-eqb, eqb-true, ne_eqb}
 use Rattle.std.proofs.lemmas.List.{append-nil, append_assoc}
+use Rattle.std.proofs.lemmas.Simd.{map-map}
+use Rattle.list_laws.proofs.Mapped.{map_same}
+use Rattle.list_laws.proofs.Filtered.{filter_map_before, filter_all}
+use Rattle.list_laws.proofs.Tests.{tests_agree}
 use Rattle.one_scope.proofs.FlatKept.{member}
-use Rattle.one_scope.proofs.FlatLists.{bool_same, filter-map, filter_all}
 use Rattle.one_scope.proofs.FlatOwners.{leaders, leads_at}
 use Rattle.one_scope.proofs.FlatSites.{homed}
 use Rattle.one_scope.specs.OneScope.{IsFlat}
 use Rattle.one_scope.specs.Open.{all_open}
-use Rattle.name_rules.proofs.Given.{from-filter, from-map}
 use Rattle.name_rules.specs.GivenNames.{count_from}
 use Rattle.name_rules.specs.Groups.{Group, Member, greatest, group_led_by, groups, leads}
 use Rattle.name_rules.specs.Options.{Options}
@@ -19,7 +21,7 @@ use Rattle.tree_nodes.specs.Tree.{Text}
 use Rattle.tree_places.proofs.Outwards.{same-refl}
 use Rattle.tree_places.specs.Places.{Place}
 use Rattle.tree_places.specs.Scopes.{same_scope}
-use Rattle.scope_rules.proofs.Lists.{In, map-map, map-same}
+use Rattle.list_laws.proofs.Members.{In, from_filter, from_map}
 use Rattle.scope_rules.specs.Bindings.{is_node, node, same_name}
 use Rattle.scope_rules.specs.Homes.{home}
 
@@ -34,18 +36,18 @@ numbered k (p ∷ ps) = record { group = root_group p; slot = k } ∷ numbered (
 module _ (o : Options) (ps : List Place) (flat : (p : Place) → In p ps → IsFlat p.site) where
   leaders_home : (p : Place) → In p (leaders o ps) → home p.site ≡ 0 ∷ []
   unfolding leaders
-  leaders_home p i = homed p.site (flat p (from-filter (leads_at o ps) ps p i).0)
+  leaders_home p i = homed p.site (flat p (from_filter (leads_at o ps) ps p i).0)
 
   pub groups_led : groups ((0 ∷ []) ∷ []) (map (member o ps) ps) ≡ map root_group (leaders o ps)
   unfolding all_open leaders leads_at root_group member
   groups_led =
       append-nil (map group_led_by (filter (λ m. same_scope (home m.place.site) (0 ∷ [])) (filter leads (map (member o ps) ps))))
-      ∙ ap (λ ms. map group_led_by (filter (λ m. same_scope (home m.place.site) (0 ∷ [])) ms)) (filter-map (member o ps) leads ps)
+      ∙ ap (λ ms. map group_led_by (filter (λ m. same_scope (home m.place.site) (0 ∷ [])) ms)) (filter_map_before (member o ps) leads ps)
       ∙ ap (map group_led_by) (filter_all (λ m. same_scope (home m.place.site) (0 ∷ [])) (map (member o ps) (leaders o ps))
-      (λ m i. let w : (p : Place) × In p (leaders o ps) × (member o ps p ≡ m) = from-map (member o ps) (leaders o ps) m i in
+      (λ m i. let w : (p : Place) × In p (leaders o ps) × (member o ps p ≡ m) = from_map (member o ps) (leaders o ps) m i in
       subst (λ (x : Member). same_scope (home x.place.site) (0 ∷ []) ≡ true) w.2 (ap (λ s. same_scope s (0 ∷ [])) (leaders_home w.0 w.1) ∙ same-refl (0 ∷ []))))
-      ∙ map-map (member o ps) group_led_by (leaders o ps)
-      ∙ map-same (λ p. group_led_by (member o ps p)) root_group (leaders o ps) (λ p i. ap (λ s. record { leader = node p; home = s }) (leaders_home p i))
+      ∙ map-map group_led_by (member o ps) (leaders o ps)
+      ∙ map_same (λ p. group_led_by (member o ps p)) root_group (leaders o ps) (λ p i. ap (λ s. record { leader = node p; home = s }) (leaders_home p i))
 
 -- ---- the next slot
 
@@ -137,7 +139,7 @@ slot_positioned k (l ∷ ls) None x h =
 slot_positioned k (l ∷ ls) (Some n) x h = go (nat_eq (node l) n) (same_name l.name x) (flip ∙ h l (inl refl)) (slot_positioned (suc k) ls (Some n) x (λ m i. h m (inr i)))
   where
     flip : nat_eq (node l) n ≡ nat_eq n (node l)
-    flip = bool_same (nat_eq (node l) n) (nat_eq n (node l)) (λ e. eq-eqb n (node l) (sym (eqb-true (node l) n e))) (λ e. eq-eqb (node l) n (sym (eqb-true n (node l) e)))
+    flip = tests_agree (nat_eq (node l) n) (nat_eq n (node l)) (λ e. eq-eqb n (node l) (sym (eqb-true (node l) n e))) (λ e. eq-eqb (node l) n (sym (eqb-true n (node l) e)))
 
     go : (a b : Bool) → a ≡ b → slot_of (numbered (suc k) ls) (Some n) ≡ position_from (λ y. same_name y x) (suc k) (map (λ p. p.name) ls)
         → elim (cond a (Some (record { group = root_group l; slot = k })) (find (λ c. nat_eq c.group.leader n) (numbered (suc k) ls))) as (λ q. Option ℕ) [ None ↦ None | Some c ↦ Some c.slot ]

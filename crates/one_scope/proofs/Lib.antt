@@ -2,7 +2,6 @@ pub mod WalkInner
 pub mod WalkSteps
 pub mod WalkPlaces
 pub mod WalkFlat
-pub mod FlatLists
 pub mod FlatSites
 pub mod FlatFaults
 pub mod FlatBindings

@@ -2,6 +2,7 @@
 use Rattle.std.proofs.Common.{◌≡◌, ℕ, suc, List, [], ◌∷◌, ◌++◌, map, reverse, cond, if◌then◌else◌, refl, sym, ap, ap₂, subst, ◌∙◌}
 use Rattle.std.proofs.lemmas.Grind.{reverse_onto}
 use Rattle.std.proofs.lemmas.List.{append-nil, append_assoc, map-append}
+use Rattle.tree_places.proofs.MarkedSettings.{mark_keeps_role}
 use Rattle.one_scope.specs.Entries.{Entry, entries, entry_of}
 use Rattle.one_scope.specs.Listing.{Listing, list_run, list_under, meet, nothing_listed}
 use Rattle.one_scope.specs.Open.{all_open}

@@ -6,7 +6,7 @@ use Rattle.std.proofs.lemmas.Fmt.{PrependsLastDigit, decimal_from_prepends, leng
 use Rattle.std.proofs.lemmas.List.{append_assoc, append-nil, length-append}
 use Rattle.syntax_lex.specs.Keyword.{reserved_keywords}
 use Rattle.oxc_mangler.proofs.NextNames.{how_many, is_listed}
-use Rattle.name_rules.proofs.Untaken.{candidate_one, enough}
+use Rattle.name_rules.proofs.Untaken.{candidate_one, enough, first_untaken_same}
 use Rattle.oxc_mangler.specs.FirstFree.{AreFirstFree, AreFreeWhereTaken}
 use Rattle.name_rules.specs.FreeNames.{first_untaken, is_taken}
 use Rattle.oxc_mangler.specs.Guard.{is_refused}
@@ -32,20 +32,6 @@ module _ (name : ℕ → Text) where
   unfolding all_open
   when_untaken taken fuel n k h = ap (λ (b : Bool). elim b as (λ c. List Text) [ true ↦ first_untaken name taken fuel (suc n) (suc k) | false ↦ name k ∷ first_untaken name taken fuel n (suc k) ]) h
 
-  -- two tests that answer alike find the same
-  alike : (p q : Text → Bool) → ((x : Text) → p x ≡ q x) → (fuel n k : ℕ) → first_untaken name p fuel n k ≡ first_untaken name q fuel n k
-  unfolding all_open
-  alike p q h zero n k = refl
-  alike p q h (suc fuel) zero k = refl
-  alike p q h (suc fuel) (suc n) k = go (p (name k)) (q (name k)) (h (name k)) (alike p q h fuel (suc n) (suc k)) (alike p q h fuel n (suc k))
-    where
-      go : (a b : Bool) → a ≡ b → first_untaken name p fuel (suc n) (suc k) ≡ first_untaken name q fuel (suc n) (suc k) → first_untaken name p fuel n (suc k) ≡ first_untaken name q fuel n (suc k)
-          → elim a as (λ c. List Text) [ true ↦ first_untaken name p fuel (suc n) (suc k) | false ↦ name k ∷ first_untaken name p fuel n (suc k) ]
-          ≡ elim b as (λ c. List Text) [ true ↦ first_untaken name q fuel (suc n) (suc k) | false ↦ name k ∷ first_untaken name q fuel n (suc k) ]
-      go true true e ih jh = ih
-      go false false e ih jh = ap (λ (xs : List Text). name k ∷ xs) jh
-      go true false e ih jh = absurd (both_ways true e refl)
-      go false true e ih jh = absurd (both_ways false refl e)
 
 -- ---- one candidate after another
 
@@ -149,7 +135,7 @@ module _ (inserted : List Text) (readable : Bool) (n : ℕ) where
   free_where_taken names first o ms r l same =
       first (n + 48 + length o.reserved + length ms) (omega (arith, l))
       ∙ ap (λ (b : Bool). first_untaken (candidate b) (is_refused inserted) (n + 48 + length o.reserved + length ms) n 0) (sym r)
-      ∙ alike (candidate o.readable) (is_refused inserted) (is_taken o ms) same (n + 48 + length o.reserved + length ms) n 0
+      ∙ first_untaken_same (candidate o.readable) (is_refused inserted) (is_taken o ms) same (n + 48 + length o.reserved + length ms) n 0
 
 -- ---- readable names
 

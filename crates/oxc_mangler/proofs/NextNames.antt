@@ -3,18 +3,19 @@ use Rattle.std.specs.Prelude.{◌≡◌, ◌⊎◌, ◌≤◌, ◌<◌, ℕ, zer
 use Rattle.std.proofs.Common.{refl, sym, ap, subst, arith, inl, inr}
 use Rattle.std.proofs.lemmas.Bool.{or_cases}
 use Rattle.std.proofs.lemmas.List.{length-append}
+use Rattle.list_laws.proofs.AnyOf.{any_some}
+use Rattle.list_laws.proofs.PairsOf.{PairsOf}
+use Rattle.scope_rules.proofs.SameNames.{same_name_tells, among_in}
 use Rattle.syntax_lex.specs.Keyword.{is_reserved_keyword, reserved_keywords}
-use Rattle.name_rules.proofs.Counting.{no_more}
-use Rattle.name_rules.proofs.Given.{in-left, in-right, tells}
+use Rattle.list_laws.proofs.Counting.{no_more}
 use Rattle.name_rules.proofs.Numbered.{short_is_one_to_one}
-use Rattle.name_rules.proofs.Passing.{among-in}
 use Rattle.oxc_mangler.specs.Guard.{is_never_given, is_refused}
 use Rattle.name_rules.specs.Kept.{name_arguments}
 use Rattle.name_rules.specs.Open.{all_open}
 use Rattle.name_rules.specs.ShortNames.{short}
 use Rattle.tree_nodes.specs.Tree.{Text}
-use Rattle.tree_places.proofs.Runs.{AllOf, PairsOf}
-use Rattle.scope_rules.proofs.Lists.{In, any-some}
+use Rattle.list_laws.proofs.AllOf.{AllOf}
+use Rattle.list_laws.proofs.Members.{In, in_left, in_right}
 use Rattle.scope_rules.specs.Bindings.{same_name}
 use Rattle.scope_rules.specs.Evals.{name_eval}
 use Rattle.scope_rules.specs.PrivateNames.{is_among}
@@ -57,21 +58,21 @@ module _ (inserted : List Text) where
   is_listed x h = last (or_cases _ _ h)
     where
       past : In x (name_eval ∷ name_arguments ∷ inserted) → In x (reserved_keywords ++ (name_eval ∷ name_arguments ∷ inserted))
-      past i = in-right reserved_keywords (name_eval ∷ name_arguments ∷ inserted) x i
+      past i = in_right reserved_keywords (name_eval ∷ name_arguments ∷ inserted) x i
 
       first : (is_reserved_keyword x ≡ true) ⊎ (same_name x name_eval ≡ true) → In x (reserved_keywords ++ (name_eval ∷ name_arguments ∷ inserted))
       first (inl k) =
-          let w : (y : Text) × In y reserved_keywords × (same_name y x ≡ true) = any-some (λ y. same_name y x) reserved_keywords k in
-          in-left reserved_keywords (name_eval ∷ name_arguments ∷ inserted) x (subst (λ (y : Text). In y reserved_keywords) ((tells w.0 x).0 w.2) w.1)
-      first (inr k) = past (inl (sym ((tells x name_eval).0 k)))
+          let w : (y : Text) × In y reserved_keywords × (same_name y x ≡ true) = any_some (λ y. same_name y x) reserved_keywords k in
+          in_left reserved_keywords (name_eval ∷ name_arguments ∷ inserted) x (subst (λ (y : Text). In y reserved_keywords) ((same_name_tells w.0 x).0 w.2) w.1)
+      first (inr k) = past (inl (sym ((same_name_tells x name_eval).0 k)))
 
       next : ((is_reserved_keyword x || same_name x name_eval) ≡ true) ⊎ (same_name x name_arguments ≡ true) → In x (reserved_keywords ++ (name_eval ∷ name_arguments ∷ inserted))
       next (inl e) = first (or_cases _ _ e)
-      next (inr e) = past (inr (inl (sym ((tells x name_arguments).0 e))))
+      next (inr e) = past (inr (inl (sym ((same_name_tells x name_arguments).0 e))))
 
       last : ((is_reserved_keyword x || same_name x name_eval || same_name x name_arguments) ≡ true) ⊎ (is_among inserted x ≡ true) → In x (reserved_keywords ++ (name_eval ∷ name_arguments ∷ inserted))
       last (inl e) = next (or_cases _ _ e)
-      last (inr e) = past (inr (inr (among-in inserted x e)))
+      last (inr e) = past (inr (inr (among_in inserted x e)))
 
   pub how_many : length reserved_keywords ≡ 46
   unfolding all_open
@@ -80,7 +81,7 @@ module _ (inserted : List Text) where
   few : (n count : ℕ) → ((j : ℕ) → n ≤ j → j < n + count → is_refused inserted (short j) ≡ true) → count ≤ 48 + length inserted
   few n count h =
       let a : length (names_from count n) ≤ length (reserved_keywords ++ (name_eval ∷ name_arguments ∷ inserted)) =
-      no_more same_name tells (names_from count n) (reserved_keywords ++ (name_eval ∷ name_arguments ∷ inserted)) (all_different count n) (λ x i. is_listed x (each_passes (is_refused inserted) count n h x i)) in
+      no_more same_name same_name_tells (names_from count n) (reserved_keywords ++ (name_eval ∷ name_arguments ∷ inserted)) (all_different count n) (λ x i. is_listed x (each_passes (is_refused inserted) count n h x i)) in
       let b : length (reserved_keywords ++ (name_eval ∷ name_arguments ∷ inserted)) ≡ length reserved_keywords + length (name_eval ∷ name_arguments ∷ inserted) = length-append reserved_keywords (name_eval ∷ name_arguments ∷ inserted) in
       let d : length (name_eval ∷ name_arguments ∷ inserted) ≡ suc (suc (length inserted)) = refl in
       let c : length (names_from count n) ≡ count = as_many count n in

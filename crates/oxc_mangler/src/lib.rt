@@ -3,7 +3,7 @@
 #![tactic(auto)]
 
 mod first_free;
-mod given_names;
+mod names_by_weight;
 mod guard;
 mod next_name;
 mod short_names;
@@ -11,7 +11,7 @@ mod short_names;
 mod tests;
 
 pub use first_free::free_names;
-pub use given_names::slot_names;
+pub use names_by_weight::slot_names;
 pub use guard::Guard;
 pub use next_name::free_name_from;
 pub use short_names::base54;

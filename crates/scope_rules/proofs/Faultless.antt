@@ -3,10 +3,13 @@ use Rattle.std.specs.Prelude.{◌≡◌, ◌⊎◌, ℕ, Bool, true, false, not,
 use Rattle.std.specs.List.{list_any}
 use Rattle.std.proofs.Common.{refl, sym, ap, ◌∙◌, subst, inl, inr}
 use Rattle.std.proofs.lemmas.Bool.{or_cases, or_left, or_right, and_parts, and_from, both_ways, eq-eqb}
+use Rattle.std.proofs.lemmas.Simd.{map-map}
+use Rattle.list_laws.proofs.Mapped.{map_same, maps_agree}
+use Rattle.list_laws.proofs.AnyOf.{any_from, any_map, any_same, any_some}
 use Rattle.tree_places.proofs.Outwards.{inside-parent, inside-refl, same-eq}
 use Rattle.tree_places.specs.Places.{Named}
 use Rattle.tree_places.specs.Scopes.{Scope, any_below, is_inside, same_scope}
-use Rattle.scope_rules.proofs.Lists.{In, any-from, any-map, any-same, any-some, contains_from_in, map-map, map-same, maps-agree}
+use Rattle.list_laws.proofs.Members.{In, contains_from_in}
 use Rattle.scope_rules.proofs.Stay.{Owner, binding_stays, owner, plainly, was_named}
 use Rattle.scope_rules.specs.Bindings.{Bound, at_home, binding, bound, declares_at, is_node, node}
 use Rattle.scope_rules.specs.Faults.{binds_in, crosses, declares_in_head, has_crossing, has_reach, has_redeclaration, has_sloppy_function, has_undeclared, is_of_body, is_single_at, is_sloppy_function, is_undeclared, reaches_body, redeclares}
@@ -44,8 +47,8 @@ module _ {A B : Type 0} (same : A → A → Bool) (same' : B → B → Bool) (te
       go : (list_any (redeclares same' (under new p)) (map (under new) qs) ≡ true) ⊎ (has_redeclaration same' (map (under new) qs) ≡ true)
           → (has_redeclaration same' (map (under new) qs) ≡ true → has_redeclaration same qs ≡ true) → has_redeclaration same (p ∷ qs) ≡ true
       go (inl h) ih =
-          let w : (q : Named A) × In q qs × (redeclares same' (under new p) (under new q) ≡ true) = any-some (λ q. redeclares same' (under new p) (under new q)) qs (sym (any-map (under new) (redeclares same' (under new p)) qs) ∙ h) in
-          or_left _ _ (any-from (redeclares same p) qs w.0 w.1 (redeclares_before p w.0 (f p (inl refl)) (f w.0 (inr w.1)) w.2))
+          let w : (q : Named A) × In q qs × (redeclares same' (under new p) (under new q) ≡ true) = any_some (λ q. redeclares same' (under new p) (under new q)) qs (sym (any_map (under new) (redeclares same' (under new p)) qs) ∙ h) in
+          or_left _ _ (any_from (redeclares same p) qs w.0 w.1 (redeclares_before p w.0 (f p (inl refl)) (f w.0 (inr w.1)) w.2))
       go (inr h) ih = or_right _ _ (ih h)
 
   -- ---- a `var` crosses a single place
@@ -76,14 +79,14 @@ module _ {A B : Type 0} (same : A → A → Bool) (same' : B → B → Bool) (te
       and_from _ _ one.0 (below_before
       (λ s. list_any (is_single_at same' (new p) s) (map (under new) ps)) (λ s. list_any (is_single_at same p.name s) ps) p.site.setting.scope (home p.site)
       (λ r from to t.
-      let w : (q : Named A) × In q ps × (is_single_at same' (new p) r (under new q) ≡ true) = any-some (λ q. is_single_at same' (new p) r (under new q)) ps (sym (any-map (under new) (is_single_at same' (new p) r) ps) ∙ t) in
+      let w : (q : Named A) × In q ps × (is_single_at same' (new p) r (under new q) ≡ true) = any_some (λ q. is_single_at same' (new p) r (under new q)) ps (sym (any_map (under new) (is_single_at same' (new p) r) ps) ∙ t) in
       let three : (is_single w.0.site ≡ true) × (at_home same' (new p) r (under new w.0) ≡ true) = and_parts _ _ w.2 in
       let four : (same_scope (home w.0.site) r ≡ true) × (same' (new w.0) (new p) ≡ true) = and_parts _ _ three.1 in
       let at : home w.0.site ≡ r = same-eq (home w.0.site) r four.0 in
-      let reached : is_bound_inside same ps o.0 r ≡ true = any-from (λ q. is_node (binding same ps q) (node o.0) && is_inside q.site.setting.scope r) ps p i
+      let reached : is_bound_inside same ps o.0 r ≡ true = any_from (λ q. is_node (binding same ps q) (node o.0) && is_inside q.site.setting.scope r) ps p i
       (and_from _ _ (ap (λ x. is_node x (node o.0)) o.1.bound ∙ eq-eqb (node o.0) (node o.0) refl) from) in
       let live : is_live_in same ps o.0 r ≡ true = or_right _ _ (and_from _ _ (subst (λ (s : Scope). is_inside r s ≡ true) (sym o.1.homed) to) reached) in
-      any-from (is_single_at same p.name r) ps w.0 w.1
+      any_from (is_single_at same p.name r) ps w.0 w.1
       (and_from _ _ three.0 (and_from _ _ four.0
       (was_same p w.0 o.0 i w.1 o.1 (plainly w.0.site (and_parts _ _ three.0).0).0 (subst (λ (s : Scope). is_live_in same ps o.0 s ≡ true) (sym at) live) four.1))))
       p.site.setting.scope (inside-refl p.site.setting.scope) (homes p (contains_from_in ps p i)) one.1)
@@ -91,20 +94,20 @@ module _ {A B : Type 0} (same : A → A → Bool) (same' : B → B → Bool) (te
   crossing_before : HomesLieOutside ps → has_crossing same' (all_under new ps) ≡ true → has_crossing same ps ≡ true
   unfolding all_open
   crossing_before homes e =
-      let w : (p : Named A) × In p ps × (crosses same' (all_under new ps) (under new p) ≡ true) = any-some (λ p. crosses same' (all_under new ps) (under new p)) ps (sym (any-map (under new) (crosses same' (all_under new ps)) ps) ∙ e) in
-      any-from (crosses same ps) ps w.0 w.1 (crosses_before homes w.0 w.1 w.2)
+      let w : (p : Named A) × In p ps × (crosses same' (all_under new ps) (under new p) ≡ true) = any_some (λ p. crosses same' (all_under new ps) (under new p)) ps (sym (any_map (under new) (crosses same' (all_under new ps)) ps) ∙ e) in
+      any_from (crosses same ps) ps w.0 w.1 (crosses_before homes w.0 w.1 w.2)
 
   -- ---- the others are at the same places
 
   sloppy_before : has_sloppy_function (all_under new ps) ≡ has_sloppy_function ps
   unfolding all_open
-  sloppy_before = any-map (under new) (λ p. is_sloppy_function p.site) ps
+  sloppy_before = any_map (under new) (λ p. is_sloppy_function p.site) ps
 
   undeclared_before : private_bindings same' (all_under new ps) ≡ private_bindings same ps → has_undeclared same' (all_under new ps) ≡ has_undeclared same ps
   unfolding all_open
-  undeclared_before e = any-map (under new) (is_undeclared same' (all_under new ps)) ps
-      ∙ any-same (λ p. is_undeclared same' (all_under new ps) (under new p)) (is_undeclared same ps) ps
-      (λ p i. ap (λ o. p.site.private && not (is_some o)) (maps-agree (λ p. private_binding same' (all_under new ps) (under new p)) (private_binding same ps) ps (sym (map-map (under new) (private_binding same' (all_under new ps)) ps) ∙ e) p i))
+  undeclared_before e = any_map (under new) (is_undeclared same' (all_under new ps)) ps
+      ∙ any_same (λ p. is_undeclared same' (all_under new ps) (under new p)) (is_undeclared same ps) ps
+      (λ p i. ap (λ o. p.site.private && not (is_some o)) (maps_agree (λ p. private_binding same' (all_under new ps) (under new p)) (private_binding same ps) ps (sym (map-map (private_binding same' (all_under new ps)) (under new) ps) ∙ e) p i))
 
   -- a place with the binding that it had, under either name
   old_bound : Named A → Bound A
@@ -115,15 +118,15 @@ module _ {A B : Type 0} (same : A → A → Bool) (same' : B → B → Bool) (te
 
   bound_before : bound same' (all_under new ps) ≡ map new_bound ps
   unfolding all_open new_bound
-  bound_before = map-map (under new) (λ p. record { place = p; binding = binding same' (all_under new ps) p }) ps
-      ∙ map-same (λ p. record { place = under new p; binding = binding same' (all_under new ps) (under new p) }) new_bound ps
+  bound_before = map-map (λ p. record { place = p; binding = binding same' (all_under new ps) p }) (under new) ps
+      ∙ map_same (λ p. record { place = under new p; binding = binding same' (all_under new ps) (under new p) }) new_bound ps
       (λ p i. ap (λ o. record { place = under new p; binding = o }) (binding_stays same same' tells tells' ps new k p i))
 
   body_before : (n f : ℕ) → is_of_body (map new_bound ps) n f ≡ is_of_body (map old_bound ps) n f
   unfolding all_open old_bound new_bound
   body_before n f =
-      ap (λ b. b && not (list_any (declares_in_head f n) (map new_bound ps))) (any-map new_bound (binds_in f n) ps ∙ sym (any-map old_bound (binds_in f n) ps))
-      ∙ ap (λ b. list_any (binds_in f n) (map old_bound ps) && not b) (any-map new_bound (declares_in_head f n) ps ∙ sym (any-map old_bound (declares_in_head f n) ps))
+      ap (λ b. b && not (list_any (declares_in_head f n) (map new_bound ps))) (any_map new_bound (binds_in f n) ps ∙ sym (any_map old_bound (binds_in f n) ps))
+      ∙ ap (λ b. list_any (binds_in f n) (map old_bound ps) && not b) (any_map new_bound (declares_in_head f n) ps ∙ sym (any_map old_bound (declares_in_head f n) ps))
 
   reaches_before : (p : Named A) → reaches_body (map new_bound ps) (new_bound p) ≡ reaches_body (map old_bound ps) (old_bound p)
   unfolding all_open old_bound new_bound
@@ -131,14 +134,14 @@ module _ {A B : Type 0} (same : A → A → Bool) (same' : B → B → Bool) (te
     where
       go : (o : Option ℕ) → (elim o as (λ q. Bool) [ None ↦ false | Some n ↦ list_any (is_of_body (map new_bound ps) n) p.site.setting.heads ]) ≡ (elim o as (λ q. Bool) [ None ↦ false | Some n ↦ list_any (is_of_body (map old_bound ps) n) p.site.setting.heads ])
       go None = refl
-      go (Some n) = any-same (is_of_body (map new_bound ps) n) (is_of_body (map old_bound ps) n) p.site.setting.heads (λ f i. body_before n f)
+      go (Some n) = any_same (is_of_body (map new_bound ps) n) (is_of_body (map old_bound ps) n) p.site.setting.heads (λ f i. body_before n f)
 
   reach_before : has_reach (bound same' (all_under new ps)) ≡ has_reach (bound same ps)
   unfolding all_open old_bound
   reach_before = ap has_reach bound_before
-      ∙ any-map new_bound (reaches_body (map new_bound ps)) ps
-      ∙ any-same (λ p. reaches_body (map new_bound ps) (new_bound p)) (λ p. reaches_body (map old_bound ps) (old_bound p)) ps (λ p i. reaches_before p)
-      ∙ sym (any-map old_bound (reaches_body (map old_bound ps)) ps)
+      ∙ any_map new_bound (reaches_body (map new_bound ps)) ps
+      ∙ any_same (λ p. reaches_body (map new_bound ps) (new_bound p)) (λ p. reaches_body (map old_bound ps) (old_bound p)) ps (λ p i. reaches_before p)
+      ∙ sym (any_map old_bound (reaches_body (map old_bound ps)) ps)
 
   pub faults_are_never_new : HomesLieOutside ps → private_bindings same' (all_under new ps) ≡ private_bindings same ps → NoNewFault same ps same' (all_under new ps)
   unfolding all_open

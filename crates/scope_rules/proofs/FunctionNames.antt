@@ -2,8 +2,12 @@
 use Rattle.std.specs.Prelude.{◌≡◌, ◌⊎◌, ℕ, zero, suc, ◌<◌, Bool, true, false, cond, not, ◌&&◌, ◌||◌, List, [], ◌∷◌, length, reverse}
 use Rattle.std.specs.List.{list_all, list_any}
 use Rattle.std.proofs.Common.{refl, sym, ap, ◌∙◌, subst, arith, inl, inr}
-use Rattle.std.proofs.lemmas.Bool.{and_parts, and_from, both_ways}
+use Rattle.std.proofs.lemmas.Bool.{and_parts, and_from, both_ways, not-true}
 use Rattle.std.proofs.lemmas.Grind.{reverse_onto}
+use Rattle.tree_places.proofs.MarkedSettings.{mark_keeps_role, mark_keeps_scope}
+use Rattle.list_laws.proofs.Tests.{tested}
+use Rattle.list_laws.proofs.AnyOf.{any_some}
+use Rattle.list_laws.proofs.PairsOf.{PairsOf, PairsOf_push}
 use Rattle.tree_nodes.specs.Along.{Along, all, each, first_column, other_columns}
 use Rattle.tree_nodes.specs.Roles.{declared_by, role_at, written_by}
 use Rattle.tree_nodes.specs.Table.{Column, row, unlisted}
@@ -18,11 +22,11 @@ use Rattle.tree_nodes.specs.declared.table.Declared.TheVariants.{FunctionName}
 use Rattle.tree_nodes.specs.declared.table.Role.{Role}
 use Rattle.tree_nodes.specs.declared.table.Role.TheVariants.{Called, Declares, Plain, Read, ReadWrite, Write}
 use Rattle.tree_places.proofs.Outwards.{same-eq}
-use Rattle.tree_places.proofs.Runs.{AllOf, PairsOf, PairsOf-push}
+use Rattle.list_laws.proofs.AllOf.{AllOf, AllOf_weaken, AllOf_reverse}
 use Rattle.tree_places.specs.Places.{Around, Seen, Setting, Site, at_field, before_all, enter, hide, met, nothing_yet, seen, side, sites, strict_in, walk}
 use Rattle.tree_places.specs.Scopes.{Scope, same_scope}
-use Rattle.scope_rules.proofs.Lists.{In, any-some, tested}
-use Rattle.scope_rules.proofs.VarScopes.{After, AllFit, AllOf-map, AllOf-reverse, Below, Fits, Met, field-fits, fits-more, hands_on, mark_keeps_role, mark_keeps_scope, met-fits, no_role, then-after, walk-fits}
+use Rattle.list_laws.proofs.Members.{In}
+use Rattle.scope_rules.proofs.VarScopes.{After, AllFit, Below, Fits, Met, field-fits, fits-more, hands_on, met-fits, no_role, then-after, walk-fits}
 use Rattle.scope_rules.specs.FunctionNames.{FunctionNamesStandApart, begins_with_name, is_function_expression, is_identifier_kind, names_functions_once}
 use Rattle.scope_rules.specs.Homes.{home, is_function_name, is_var, names_function}
 use Rattle.scope_rules.specs.Open.{all_open}
@@ -165,9 +169,6 @@ named-by (UnlessSource i) own fields h = no_role (either_name (is_empty (part fi
 named-by (NamesFunction i j) own fields h = no_role h
 named-by (NamesExpression i j) own fields h = inl refl
 
-not_true : (b : Bool) → not b ≡ true → b ≡ false
-not_true true h = absurd (both_ways false refl h)
-not_true false h = refl
 
 -- what a quiet field gives is no function-name
 quiet_role : (c : Column) (a : Around) → is_quiet (is_function_name a.outside.role) c ≡ true → is_function_name (at_field c a).role ≡ false
@@ -179,8 +180,8 @@ quiet_role c a q = tested (is_function_name (at_field c a).role)
     (λ h. h)
   where
     go : (not (gives_name c.mode) ≡ true) × (not (hands_on c.mode && is_function_name a.outside.role) ≡ true) → (gives_name c.mode ≡ true) ⊎ ((hands_on c.mode ≡ true) × (is_function_name a.outside.role ≡ true)) → is_function_name (at_field c a).role ≡ false
-    go two (inl e) = absurd (both_ways _ (not_true _ two.0) e)
-    go two (inr e) = absurd (both_ways _ (not_true _ two.1) (and_from _ _ e.0 e.1))
+    go two (inl e) = absurd (both_ways _ (not-true _ two.0) e)
+    go two (inr e) = absurd (both_ways _ (not-true _ two.1) (and_from _ _ e.0 e.1))
 
 first_quiet : (b : Bool) (cs : Along) → all_quiet b cs ≡ true → is_quiet b (first_column cs) ≡ true
 unfolding all_open
@@ -202,7 +203,7 @@ Apart p q = names_function p ≡ true → names_function q ≡ true → home p �
 abbrev AllApart : List Site → Type 0
 AllApart ss = PairsOf Apart ss
 
-function_home : (s : Site) → names_function s ≡ true → home s ≡ s.setting.scope
+pub function_home : (s : Site) → names_function s ≡ true → home s ≡ s.setting.scope
 unfolding all_open
 function_home s h = go s.setting.role (and_parts _ _ h).1
   where
@@ -239,7 +240,7 @@ met-apart _ b e inner s c a = a
 
 -- what a new scope is: none of the sites so far has it
 new_fresh : (v : ℕ → Bool) (n : ℕ) (outer : Scope) (ss : List Site) → AllFit v n ss → Fresh (n ∷ outer) ss
-new_fresh v n outer ss a = AllOf-map (λ q. Fits v n q.setting) (λ q. q.setting.scope ≡ n ∷ outer → ⊥) (λ q p e. let h : n < n = (subst (Below n) e p.below).0 in omega (arith, h)) ss a
+new_fresh v n outer ss a = AllOf_weaken (λ q. Fits v n q.setting) (λ q. q.setting.scope ≡ n ∷ outer → ⊥) (λ q p e. let h : n < n = (subst (Below n) e p.below).0 in omega (arith, h)) ss a
 
 -- the first field of a function expression: it lies in the new scope
 record Naming (x : Parts) (columns : Along) (a : Around) (s : Seen) : Type 0 where
@@ -327,8 +328,8 @@ walk-apart (child k b st fields more) columns a s u p q r h c d =
 pairs-reverse : (ss : List Site) → AllApart ss → AllApart (reverse ss)
 unfolding all_open
 pairs-reverse [] p = tt
-pairs-reverse (s ∷ ss) p = rw (reverse_onto ss s []) (PairsOf-push Apart (reverse ss) s (pairs-reverse ss p.1)
-    (AllOf-reverse (λ q. Apart q s) ss (AllOf-map (Apart s) (λ q. Apart q s) (λ q f g h e. f h g (sym e)) ss p.0)))
+pairs-reverse (s ∷ ss) p = rw (reverse_onto ss s []) (PairsOf_push Apart (reverse ss) s (pairs-reverse ss p.1)
+    (AllOf_reverse (λ q. Apart q s) ss (AllOf_weaken (Apart s) (λ q. Apart q s) (λ q f g h e. f h g (sym e)) ss p.0)))
 
 apart_told : (ss : List Site) → AllApart ss → function_names_apart ss ≡ true
 unfolding all_open
@@ -339,9 +340,9 @@ apart_told (s ∷ ss) p = and_from _ _ (none (names_function s && list_any (λ r
     none true f = absurd (f refl)
     none false f = refl
 
-    of-each : (qs : List Site) → AllOf (Apart s) qs → (q : Site) → In q qs → Apart s q
-    of-each [] a q i = absurd i
-    of-each (y ∷ ys) a q i = go i (of-each ys a.1 q)
+    of_each : (qs : List Site) → AllOf (Apart s) qs → (q : Site) → In q qs → Apart s q
+    of_each [] a q i = absurd i
+    of_each (y ∷ ys) a q i = go i (of_each ys a.1 q)
       where
         go : (y ≡ q) ⊎ In q ys → (In q ys → Apart s q) → Apart s q
         go (inl e) ih = subst (Apart s) e a.0
@@ -350,9 +351,9 @@ apart_told (s ∷ ss) p = and_from _ _ (none (names_function s && list_any (λ r
     clash : (names_function s && list_any (λ r. names_function r && same_scope (home r) (home s)) ss) ≡ true → ⊥
     clash e =
         let two : (names_function s ≡ true) × (list_any (λ r. names_function r && same_scope (home r) (home s)) ss ≡ true) = and_parts _ _ e in
-        let w : (q : Site) × In q ss × ((names_function q && same_scope (home q) (home s)) ≡ true) = any-some (λ r. names_function r && same_scope (home r) (home s)) ss two.1 in
+        let w : (q : Site) × In q ss × ((names_function q && same_scope (home q) (home s)) ≡ true) = any_some (λ r. names_function r && same_scope (home r) (home s)) ss two.1 in
         let three : (names_function w.0 ≡ true) × (same_scope (home w.0) (home s) ≡ true) = and_parts _ _ w.2 in
-        of-each ss p.0 w.0 w.1 two.0 three.0 (sym (same-eq (home w.0) (home s) three.1))
+        of_each ss p.0 w.0 w.1 two.0 three.0 (sym (same-eq (home w.0) (home s) three.1))
 
 pub function_names_stand_apart : FunctionNamesStandApart
 unfolding all_open

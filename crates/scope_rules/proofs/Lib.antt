@@ -1,6 +1,12 @@
-pub mod Lists
+-- places and names
+pub mod PlacesRise
+pub mod SameNames
+
+-- bindings and faults under new names
 pub mod Stay
 pub mod Faultless
+
+-- var scopes and function-names, and names that are in use together
 pub mod VarScopes
-pub mod Separate
 pub mod FunctionNames
+pub mod Separate

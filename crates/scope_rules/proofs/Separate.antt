@@ -4,6 +4,10 @@ use Rattle.std.specs.List.{list_any}
 use Rattle.std.proofs.Common.{refl, sym, ap, ◌∙◌, subst, arith, inl, inr}
 use Rattle.std.proofs.lemmas.Bool.{or_cases, or_left, or_right, and_parts, and_from, both_ways, eqb-true}
 use Rattle.std.proofs.lemmas.Slice.Eq.{bytes_eq-Decides}
+use Rattle.scope_rules.proofs.SameNames.{same_name_tells}
+use Rattle.scope_rules.proofs.PlacesRise.{one_place, places_rise, site_in}
+use Rattle.list_laws.proofs.Tests.{none_some, some_one, tested, told}
+use Rattle.list_laws.proofs.AnyOf.{any_from, any_some}
 use Rattle.tree_nodes.specs.Tree.{Parts}
 use Rattle.tree_nodes.specs.declared.table.Declared.TheVariants.{Function, FunctionName, Param, Var}
 use Rattle.tree_nodes.specs.declared.table.Role.{Role}
@@ -13,8 +17,8 @@ use Rattle.tree_places.proofs.Rising.{numbers_rise}
 use Rattle.tree_places.specs.Laws.{RiseFrom}
 use Rattle.tree_places.specs.Places.{Named, Place, Site, named_by, names, places, sites}
 use Rattle.tree_places.specs.Scopes.{Scope, any_below, first_outwards, is_inside, same_scope}
-use Rattle.scope_rules.proofs.Lists.{In, any-from, any-some, in_from_Contains, none_some, some_one, tested, told}
-use Rattle.scope_rules.proofs.Stay.{At, Owner, binder_source, binding_plain, binding_refers, binding_source, binds, declares_plain, one_place, owner}
+use Rattle.list_laws.proofs.Members.{In, in_from_Contains}
+use Rattle.scope_rules.proofs.Stay.{At, Owner, binder_source, binding_plain, binding_refers, binding_source, binds, declares_plain, owner}
 use Rattle.scope_rules.proofs.VarScopes.{Pinned, hoisted, is_pinned, pinned}
 use Rattle.scope_rules.specs.Bindings.{binder, binding, is_node, node, plain_binder, same_name, shadower}
 use Rattle.scope_rules.specs.Faults.{crosses, has_crossing, is_single_at}
@@ -106,9 +110,9 @@ module _ {N : Type 0} (same : N → N → Bool) (tells : TellsSame same) (ps : L
       → is_inside p.site.setting.scope (home b.site) ≡ true → is_inside (home b.site) (home p.site) ≡ true → (home b.site ≡ home p.site → ⊥) → (home b.site ≡ [] → ⊥) → ⊥
   unfolding all_open
   not_crossed p b i j d v s n inside within apart root =
-      both_ways _ free (any-from (crosses same ps) ps p i (and_from _ _ (and_from _ _ d v)
+      both_ways _ free (any_from (crosses same ps) ps p i (and_from _ _ (and_from _ _ d v)
       (below_from (λ r. list_any (is_single_at same p.name r) ps) (home p.site) (home b.site) p.site.setting.scope inside within apart root
-      (any-from (is_single_at same p.name (home b.site)) ps b j (and_from _ _ s (and_from _ _ (same-refl (home b.site)) ((tells b.name p.name).1 (sym n))))))))
+      (any_from (is_single_at same p.name (home b.site)) ps b j (and_from _ _ s (and_from _ _ (same-refl (home b.site)) ((tells b.name p.name).1 (sym n))))))))
 
   -- a place that declares a and lies in the home of b
   by_declaration : (a b p : Named N) → IsBindingOf same ps a → IsBindingOf same ps b → In p ps → declares p.site ≡ true → home a.site ≡ home p.site → p.name ≡ b.name
@@ -146,7 +150,7 @@ module _ {N : Type 0} (same : N → N → Bool) (tells : TellsSame same) (ps : L
           let apart : home b.site ≡ home a.site → ⊥ = λ f. both_ways _ q (subst (λ (x : Scope). same_scope (home b.site) x ≡ true) f (same-refl (home b.site))) in
           let root : home b.site ≡ [] → ⊥ = λ f. apart (f ∙ same-eq [] (home a.site) (subst (λ (x : Scope). is_inside x (home a.site) ≡ true) f two.0)) in
           let w : (p : Named N) × In p ps × ((is_node (binding same ps p) (node a) && is_inside p.site.setting.scope (home b.site)) ≡ true) =
-          any-some (λ p. is_node (binding same ps p) (node a) && is_inside p.site.setting.scope (home b.site)) ps two.1 in
+          any_some (λ p. is_node (binding same ps p) (node a) && is_inside p.site.setting.scope (home b.site)) ps two.1 in
           let three : (is_node (binding same ps w.0) (node a) ≡ true) × (is_inside w.0.site.setting.scope (home b.site) ≡ true) = and_parts _ _ w.2 in
           let to : binding same ps w.0 ≡ Some (node a) = node_told (binding same ps w.0) (node a) three.0 in
           inside-antisym (home a.site) (home b.site)
@@ -194,7 +198,7 @@ apart_sites (s ∷ ss) p q h i j f g e = go i j (apart_sites ss p q (and_parts _
   where
     no : (r : Site) → In r ss → names_function s ≡ true → names_function r ≡ true → home r ≡ home s → ⊥
     no r k f' g' e' = clash (names_function s && list_any (λ x. names_function x && same_scope (home x) (home s)) ss) (and_parts _ _ h).0
-        (and_from _ _ f' (any-from (λ x. names_function x && same_scope (home x) (home s)) ss r k (and_from _ _ g' (subst (λ (x : Scope). same_scope (home r) x ≡ true) e' (same-refl (home r))))))
+        (and_from _ _ f' (any_from (λ x. names_function x && same_scope (home x) (home s)) ss r k (and_from _ _ g' (subst (λ (x : Scope). same_scope (home r) x ≡ true) e' (same-refl (home r))))))
       where
         clash : (b : Bool) → not b ≡ true → b ≡ true → ⊥
         clash true x y = both_ways false refl x
@@ -206,38 +210,10 @@ apart_sites (s ∷ ss) p q h i j f g e = go i j (apart_sites ss p q (and_parts _
     go (inr a) (inl b) ih = absurd (no p a (subst (λ (x : Site). names_function x ≡ true) (sym b) g) f (e ∙ ap home (sym b)))
     go (inr a) (inr b) ih = ih a b f g e
 
-tells : TellsSame same_name
-unfolding all_open
-tells x y = bytes_eq-Decides x y
 
-named-nodes : {N : Type 0} (ss : List Site) (xs : List N) → length xs ≡ length ss → map node (named_by ss xs) ≡ map (λ s. s.node) ss
-unfolding all_open
-named-nodes [] [] h = refl
-named-nodes [] (x ∷ xs) h = refl
-named-nodes (s ∷ ss) [] h = absurd (omega (arith, h))
-named-nodes (s ∷ ss) (x ∷ xs) h = ap (λ ns. s.node ∷ ns) (named-nodes ss xs (omega (arith, h)))
 
-pub places_rise : (t : Parts) → RiseFrom 0 (map node (places t))
-unfolding all_open
-places_rise t = subst (RiseFrom 0) (sym (named-nodes (sites t) (names t) (numbers_rise t).2)) (numbers_rise t).0
 
-pub named-site : {N : Type 0} (ss : List Site) (xs : List N) (p : Named N) → In p (named_by ss xs) → In p.site ss
-unfolding all_open
-named-site {N} [] xs p i = absurd (none xs i)
-  where
-    none : (ys : List N) → In p (named_by [] ys) → ⊥
-    none [] j = j
-    none (y ∷ ys) j = j
-named-site (s ∷ ss) [] p i = absurd i
-named-site {N} (s ∷ ss) (x ∷ xs) p i = go i (named-site ss xs p)
-  where
-    go : (record { site = s; name = x } ≡ p) ⊎ In p (named_by ss xs) → (In p (named_by ss xs) → In p.site ss) → In p.site (s ∷ ss)
-    go (inl e) ih = inl (ap (λ (q : Named N). q.site) e)
-    go (inr j) ih = inr (ih j)
 
-site_in : (t : Parts) (p : Place) → In p (places t) → In p.site (sites t)
-unfolding all_open
-site_in t p i = named-site (sites t) (names t) p i
 
 pub names_separate : NamesSeparate
 unfolding all_open
@@ -247,8 +223,8 @@ names_separate t alone free a b ia ib live n =
     let hoists : (p q : Place) → In p (places t) → In q (places t) → is_inside p.site.setting.scope q.site.setting.var_scope ≡ true → is_inside p.site.setting.var_scope q.site.setting.var_scope ≡ true =
     λ p q i j. hoisted t p.site q.site (site_in t p i) (site_in t q j) in
     let pins : (q : Place) → In q (places t) → Pinned q.site.setting = λ q i. pinned t q.site (site_in t q i) in
-    let h : home a.site ≡ home b.site = one_home same_name tells (places t) (places_rise t) hoists pins free a b ia ib live n in
-    go ja jb h (one_name same_name tells (places t) (places_rise t) hoists pins free a b ia ib h n)
+    let h : home a.site ≡ home b.site = one_home same_name same_name_tells (places t) (places_rise t) hoists pins free a b ia ib live n in
+    go ja jb h (one_name same_name same_name_tells (places t) (places_rise t) hoists pins free a b ia ib h n)
   where
     go : In a (places t) → In b (places t) → home a.site ≡ home b.site
         → (a ≡ b) ⊎ (((names_function a.site ≡ true) × (names_function b.site ≡ true)) ⊎ ((shadower same_name (places t) a ≡ Some (node b)) ⊎ (shadower same_name (places t) b ≡ Some (node a))))

@@ -2,13 +2,19 @@
 use Rattle.std.specs.Prelude.{◌≡◌, ◌⊎◌, ℕ, suc, ◌≤◌, Bool, true, false, not, ◌&&◌, List, [], ◌∷◌, map, find, Option, Some, None}
 use Rattle.std.proofs.Common.{refl, sym, ap, ◌∙◌, subst, arith, inl, inr}
 use Rattle.std.proofs.lemmas.Bool.{or_cases, or_left, or_right, and_parts, and_from, both_ways, eq-eqb}
+use Rattle.std.proofs.lemmas.Simd.{map-map}
+use Rattle.scope_rules.proofs.PlacesRise.{one_place}
+use Rattle.list_laws.proofs.Tests.{none_some, some_one, tested, told}
+use Rattle.list_laws.proofs.Mapped.{map_same}
+use Rattle.list_laws.proofs.AnyOf.{any_from}
+use Rattle.list_laws.proofs.FirstOf.{First, find_first, find_map, find_none, find_same_first}
 use Rattle.tree_nodes.specs.declared.table.Role.{Role}
 use Rattle.tree_nodes.specs.declared.table.Role.TheVariants.{Called, Declares, MemberKey, Plain, Read, ReadWrite, Write}
 use Rattle.tree_places.proofs.Outwards.{inside-parent, inside-refl, same-eq, same-refl}
 use Rattle.tree_places.specs.Laws.{RiseFrom}
 use Rattle.tree_places.specs.Places.{Named, Site}
 use Rattle.tree_places.specs.Scopes.{Scope, first_outwards, is_inside, same_scope}
-use Rattle.scope_rules.proofs.Lists.{First, In, any-from, contains_from_in, find-first, find-map, find-none, first-same, in_from_Contains, map-map, map-same, none_some, some_one, tested, told}
+use Rattle.list_laws.proofs.Members.{In, contains_from_in, in_from_Contains}
 use Rattle.scope_rules.specs.Bindings.{at_home, binder, binding, bindings, declares_at, is_node, names_function_at, node, node_of, or_else, plain_binder}
 use Rattle.scope_rules.specs.Homes.{declares, declares_plainly, home, is_declaring, is_function_name, is_reference, names_function, refers}
 use Rattle.scope_rules.specs.Open.{all_open}
@@ -61,25 +67,7 @@ declares_plain s d f = rw d (flip (is_function_name s.setting.role) (rest (decla
 
 -- ---- places stand in the order of their numbers, so a number tells the place
 
-pub above : {N : Type 0} (n : ℕ) (ps : List (Named N)) (q : Named N) → RiseFrom n (map node ps) → In q ps → n ≤ node q
-unfolding all_open
-above n [] q r i = absurd i
-above {N} n (p ∷ ps) q r i = go i (above (suc (node p)) ps q r.1)
-  where
-    go : (p ≡ q) ⊎ In q ps → (In q ps → suc (node p) ≤ node q) → n ≤ node q
-    go (inl e) ih = subst (λ (x : Named N). n ≤ node x) e r.0
-    go (inr j) ih = let h : suc (node p) ≤ node q = ih j in let k : n ≤ node p = r.0 in omega (arith, h, k)
 
-pub one_place : {N : Type 0} (n : ℕ) (ps : List (Named N)) (p q : Named N) → RiseFrom n (map node ps) → In p ps → In q ps → node p ≡ node q → p ≡ q
-unfolding all_open
-one_place n [] p q r i j e = absurd i
-one_place {N} n (x ∷ ps) p q r i j e = go i j (one_place (suc (node x)) ps p q r.1)
-  where
-    go : (x ≡ p) ⊎ In p ps → (x ≡ q) ⊎ In q ps → (In p ps → In q ps → node p ≡ node q → p ≡ q) → p ≡ q
-    go (inl a) (inl b) ih = sym a ∙ b
-    go (inl a) (inr b) ih = let h : suc (node x) ≤ node q = above (suc (node x)) ps q r.1 b in let k : node x ≡ node p = ap node a in absurd (omega (arith, h, k, e))
-    go (inr a) (inl b) ih = let h : suc (node x) ≤ node p = above (suc (node x)) ps p r.1 a in let k : node x ≡ node q = ap node b in absurd (omega (arith, h, k, e))
-    go (inr a) (inr b) ih = ih a b e
 
 -- ---- what binders find
 
@@ -136,7 +124,7 @@ module _ {N : Type 0} (same : N → N → Bool) (tells : TellsSame same) (ps : L
   pub first_own : (x : N) (h : Scope) (c : Named N) → find (declares_at same x h) ps ≡ Some c → IsBindingOf same ps c × (declares_plainly c.site ≡ true) × At x h c
   unfolding all_open
   first_own x h c e =
-      let f : First (declares_at same x h) ps c = find-first (declares_at same x h) ps c e in
+      let f : First (declares_at same x h) ps c = find_first (declares_at same x h) ps c e in
       let a : (declares_plainly c.site ≡ true) × At x h c = plain_at x h c f.among f.passes in
       let again : find (declares_at same c.name (home c.site)) ps ≡ Some c = subst (λ (y : N). find (declares_at same y (home c.site)) ps ≡ Some c) (sym a.1.named) (subst (λ (s : Scope). find (declares_at same x s) ps ≡ Some c) (sym a.1.homed) e) in
       (record { among = contains_from_in ps c f.among; declares = (plainly c.site a.0).0; own = binding_plain c a.0 ∙ ap node_of again }, a.0, a.1)
@@ -155,7 +143,7 @@ module _ {N : Type 0} (same : N → N → Bool) (tells : TellsSame same) (ps : L
   plain_owner : (q : Named N) → In q ps → declares_plainly q.site ≡ true → (c : Named N) × Owner q c
   unfolding all_open
   plain_owner q i d = told (find (declares_at same q.name (home q.site)) ps)
-      (λ n. absurd (find-none (declares_at same q.name (home q.site)) ps q n i (plain_to q.name (home q.site) q d refl refl)))
+      (λ n. absurd (find_none (declares_at same q.name (home q.site)) ps q n i (plain_to q.name (home q.site) q d refl refl)))
       (λ c e. let o : IsBindingOf same ps c × (declares_plainly c.site ≡ true) × At q.name (home q.site) c = first_own q.name (home q.site) c e in
       (c, record { is = o.0; bound = binding_plain q d ∙ ap node_of e; homed = o.2.homed; named = o.2.named }))
 
@@ -172,7 +160,7 @@ module _ {N : Type 0} (same : N → N → Bool) (tells : TellsSame same) (ps : L
   binder_source x h n e = told (find (declares_at same x h) ps)
       (λ no. told (find (names_function_at same x h) ps)
       (λ none. absurd (none_some n (sym (ap (λ o. or_else (node_of o) (node_of (find (names_function_at same x h) ps))) no ∙ ap node_of none) ∙ e)))
-      (λ c f. let g : First (names_function_at same x h) ps c = find-first (names_function_at same x h) ps c f in
+      (λ c f. let g : First (names_function_at same x h) ps c = find_first (names_function_at same x h) ps c f in
       let a : (names_function c.site ≡ true) × At x h c = function_at x h c g.among g.passes in
       (c, some_one (node c) n (sym (ap (λ o. or_else (node_of o) (node_of (find (names_function_at same x h) ps))) no ∙ ap node_of f) ∙ e), function_own c g.among a.0, a.1)))
       (λ c f. let o : IsBindingOf same ps c × (declares_plainly c.site ≡ true) × At x h c = first_own x h c f in
@@ -233,8 +221,8 @@ module _ {N : Type 0} (same : N → N → Bool) (tells : TellsSame same) (ps : L
   binds b i d e = told (find (declares_at same b.name (home b.site)) ps)
       (λ none. told (find (names_function_at same b.name (home b.site)) ps)
       (λ nor. tested (names_function b.site)
-      (λ f. find-none (names_function_at same b.name (home b.site)) ps b nor i (function_to same tells ps b.name (home b.site) b f refl refl))
-      (λ f. find-none (declares_at same b.name (home b.site)) ps b none i (plain_to same tells ps b.name (home b.site) b (declares_plain b.site d f) refl refl)))
+      (λ f. find_none (names_function_at same b.name (home b.site)) ps b nor i (function_to same tells ps b.name (home b.site) b f refl refl))
+      (λ f. find_none (declares_at same b.name (home b.site)) ps b none i (plain_to same tells ps b.name (home b.site) b (declares_plain b.site d f) refl refl)))
       (λ c g. none_some (node c) (sym e ∙ ap (λ o. or_else (node_of o) (node_of (find (names_function_at same b.name (home b.site)) ps))) none ∙ ap node_of g)))
       (λ c g. none_some (node c) (sym e ∙ ap (λ o. or_else (node_of o) (node_of (find (names_function_at same b.name (home b.site)) ps))) g))
 
@@ -266,7 +254,7 @@ module _ {A B : Type 0} (same : A → A → Bool) (same' : B → B → Bool) (te
       → ((c : Named A) → find (declares_at same x h) ps ≡ Some c → node c ≡ node b)
       → find (λ q. declares_at same' y h (under new q)) ps ≡ find (declares_at same x h) ps
   unfolding all_open
-  find_plain b x y h ib n m live first = first-same (declares_at same x h) (λ q. declares_at same' y h (under new q)) ps
+  find_plain b x y h ib n m live first = find_same_first (declares_at same x h) (λ q. declares_at same' y h (under new q)) ps
       (λ q i e.
       let two : (declares_plainly q.site ≡ true) × (at_home same' y h (under new q) ≡ true) = and_parts _ _ e in
       let both : (same_scope (home q.site) h ≡ true) × (same' (new q) y ≡ true) = and_parts _ _ two.1 in
@@ -274,7 +262,7 @@ module _ {A B : Type 0} (same : A → A → Bool) (same' : B → B → Bool) (te
       plain_to same tells ps x h q two.0 at
       (was_named b q ib i (plainly q.site two.0).0 (subst (λ (s : Scope). is_live_in same ps b s ≡ true) (sym at) live) ((tells' (new q) y).0 both.1 ∙ m) ∙ n))
       (λ c f.
-      let g : First (declares_at same x h) ps c = find-first (declares_at same x h) ps c f in
+      let g : First (declares_at same x h) ps c = find_first (declares_at same x h) ps c f in
       let a : (declares_plainly c.site ≡ true) × At same tells ps x h c = plain_at same tells ps x h c g.among g.passes in
       let own : binding same ps c ≡ Some (node c) = (first_own same tells ps x h c f).0.own in
       let e : new c ≡ new b = named_so c b g.among (in_from_Contains ps b ib.among) (own ∙ ap Some (first c f)) in
@@ -284,7 +272,7 @@ module _ {A B : Type 0} (same : A → A → Bool) (same' : B → B → Bool) (te
       → ((c : Named A) → find (names_function_at same x h) ps ≡ Some c → node c ≡ node b)
       → find (λ q. names_function_at same' y h (under new q)) ps ≡ find (names_function_at same x h) ps
   unfolding all_open
-  find_function b x y h ib n m live first = first-same (names_function_at same x h) (λ q. names_function_at same' y h (under new q)) ps
+  find_function b x y h ib n m live first = find_same_first (names_function_at same x h) (λ q. names_function_at same' y h (under new q)) ps
       (λ q i e.
       let two : (names_function q.site ≡ true) × (at_home same' y h (under new q) ≡ true) = and_parts _ _ e in
       let both : (same_scope (home q.site) h ≡ true) × (same' (new q) y ≡ true) = and_parts _ _ two.1 in
@@ -292,7 +280,7 @@ module _ {A B : Type 0} (same : A → A → Bool) (same' : B → B → Bool) (te
       function_to same tells ps x h q two.0 at
       (was_named b q ib i (names_declares q.site two.0) (subst (λ (s : Scope). is_live_in same ps b s ≡ true) (sym at) live) ((tells' (new q) y).0 both.1 ∙ m) ∙ n))
       (λ c f.
-      let g : First (names_function_at same x h) ps c = find-first (names_function_at same x h) ps c f in
+      let g : First (names_function_at same x h) ps c = find_first (names_function_at same x h) ps c f in
       let a : (names_function c.site ≡ true) × At same tells ps x h c = function_at same tells ps x h c g.among g.passes in
       let e : new c ≡ new b = named_so c b g.among (in_from_Contains ps b ib.among) (binding_function same tells ps c a.0 ∙ ap Some (first c f)) in
       and_from _ _ a.0 (and_from _ _ (subst (λ (s : Scope). same_scope (home c.site) s ≡ true) a.1.homed (same-refl (home c.site))) ((tells' (new c) y).1 (e ∙ sym m))))
@@ -305,7 +293,7 @@ module _ {A B : Type 0} (same : A → A → Bool) (same' : B → B → Bool) (te
 
   node-find : (test : Named B → Bool) → node_of (find test (map (under new) ps)) ≡ node_of (find (λ q. test (under new q)) ps)
   unfolding all_open
-  node-find test = ap node_of (find-map (under new) test ps) ∙ node_under (find (λ q. test (under new q)) ps)
+  node-find test = ap node_of (find_map (under new) test ps) ∙ node_under (find (λ q. test (under new q)) ps)
 
   plain-same : (b : Named A) (x : A) (y : B) (h : Scope) → IsBindingOf same ps b → b.name ≡ x → y ≡ new b → is_live_in same ps b h ≡ true
       → ((c : Named A) → find (declares_at same x h) ps ≡ Some c → node c ≡ node b)
@@ -341,7 +329,7 @@ module _ {A B : Type 0} (same : A → A → Bool) (same' : B → B → Bool) (te
       let source : (c : Named A) × (node c ≡ node b) × IsBindingOf same ps c × At same tells ps p.name (home c.site) c × (is_inside (h ∷ hs) (home c.site) ≡ true) = outwards_source same tells ps p.name (h ∷ hs) (node b) f in
       let is_b : source.0 ≡ b = one_place 0 ps source.0 b k.in_order source.3.among (in_from_Contains ps b ib.among) source.1 in
       let within : is_inside (h ∷ hs) (home b.site) ≡ true = subst (λ (c : Named A). is_inside (h ∷ hs) (home c.site) ≡ true) is_b source.4 in
-      let reached : is_bound_inside same ps b (h ∷ hs) ≡ true = any-from (λ q. is_node (binding same ps q) (node b) && is_inside q.site.setting.scope (h ∷ hs)) ps p i
+      let reached : is_bound_inside same ps b (h ∷ hs) ≡ true = any_from (λ q. is_node (binding same ps q) (node b) && is_inside q.site.setting.scope (h ∷ hs)) ps p i
       (and_from _ _ (ap (λ o. is_node o (node b)) e ∙ eq-eqb (node b) (node b) refl) inside) in
       let live : is_live_in same ps b (h ∷ hs) ≡ true = or_right _ _ (and_from _ _ within reached) in
       let here : binder same' (map (under new) ps) (new p) (h ∷ hs) ≡ binder same ps p.name (h ∷ hs) =
@@ -356,7 +344,7 @@ module _ {A B : Type 0} (same : A → A → Bool) (same' : B → B → Bool) (te
   -- ---- a reference without one
 
   find_nothing : (t u : Named A → Bool) → find t ps ≡ None → ((q : Named A) → In q ps → u q ≡ true → ⊥) → find u ps ≡ find t ps
-  find_nothing t u none f = first-same t u ps (λ q i e. absurd (f q i e)) (λ c g. absurd (none_some c (sym none ∙ g)))
+  find_nothing t u none f = find_same_first t u ps (λ q i e. absurd (f q i e)) (λ c g. absurd (none_some c (sym none ∙ g)))
 
   unbound_here : (p : Named A) (h : Scope) → In p ps → refers p.site ≡ true → binding same ps p ≡ None → is_inside p.site.setting.scope h ≡ true
       → binder same ps p.name h ≡ None → binder same' (map (under new) ps) (new p) h ≡ None
@@ -366,10 +354,10 @@ module _ {A B : Type 0} (same : A → A → Bool) (same' : B → B → Bool) (te
       (λ no. told (find (λ q. names_function_at same' (new p) h (under new q)) ps)
       (λ nor. ap (λ o. or_else o (node_of (find (names_function_at same' (new p) h) (map (under new) ps)))) (node-find (declares_at same' (new p) h) ∙ ap node_of no)
       ∙ node-find (names_function_at same' (new p) h) ∙ ap node_of nor)
-      (λ c f. let g : First (λ q. names_function_at same' (new p) h (under new q)) ps c = find-first (λ q. names_function_at same' (new p) h (under new q)) ps c f in
+      (λ c f. let g : First (λ q. names_function_at same' (new p) h (under new q)) ps c = find_first (λ q. names_function_at same' (new p) h (under new q)) ps c f in
       let two : (names_function c.site ≡ true) × (at_home same' (new p) h (under new c) ≡ true) = and_parts _ _ g.passes in
       absurd (captured c g.among (names_declares c.site two.0) two.1)))
-      (λ c f. let g : First (λ q. declares_at same' (new p) h (under new q)) ps c = find-first (λ q. declares_at same' (new p) h (under new q)) ps c f in
+      (λ c f. let g : First (λ q. declares_at same' (new p) h (under new q)) ps c = find_first (λ q. declares_at same' (new p) h (under new q)) ps c f in
       let two : (declares_plainly c.site ≡ true) × (at_home same' (new p) h (under new c) ≡ true) = and_parts _ _ g.passes in
       absurd (captured c g.among (plainly c.site two.0).0 two.1))
     where
@@ -430,7 +418,7 @@ module _ {A B : Type 0} (same : A → A → Bool) (same' : B → B → Bool) (te
 
   pub bindings_stay : bindings same' (all_under new ps) ≡ bindings same ps
   unfolding all_open
-  bindings_stay = map-map (under new) (binding same' (map (under new) ps)) ps ∙ map-same (λ p. binding same' (map (under new) ps) (under new p)) (binding same ps) ps stays
+  bindings_stay = map-map (binding same' (map (under new) ps)) (under new) ps ∙ map_same (λ p. binding same' (map (under new) ps) (under new p)) (binding same ps) ps stays
 
   -- each place alone
   pub binding_stays : (p : Named A) → In p ps → binding same' (all_under new ps) (under new p) ≡ binding same ps p

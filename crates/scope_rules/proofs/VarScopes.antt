@@ -2,8 +2,9 @@
 use Rattle.std.specs.Prelude.{◌≡◌, ◌⊎◌, ℕ, zero, suc, ◌<◌, ◌≤◌, Bool, true, false, cond, not, ◌&&◌, ◌||◌, nat_eq, List, [], ◌∷◌, length, reverse}
 use Rattle.std.specs.List.{list_all}
 use Rattle.std.proofs.Common.{refl, sym, ap, ◌∙◌, subst, arith, inl, inr}
-use Rattle.std.proofs.lemmas.Bool.{or_cases, and_parts, both_ways, eq-eqb, ne_eqb}
+use Rattle.std.proofs.lemmas.Bool.{or_cases, and_parts, both_ways, eq-eqb, ne_eqb, not-true}
 use Rattle.std.proofs.lemmas.Grind.{reverse_onto}
+use Rattle.tree_places.proofs.MarkedSettings.{inner_setting, mark_keeps_role, mark_keeps_scope, mark_keeps_var_scope}
 use Rattle.tree_nodes.specs.Along.{Along, all, each, first_column, other_columns}
 use Rattle.tree_nodes.specs.Roles.{declared_by, role_at, written_by}
 use Rattle.tree_nodes.specs.Table.{Column, row, unlisted}
@@ -20,12 +21,12 @@ use Rattle.tree_nodes.specs.declared.table.Opens.TheVariants.{BareBlock, Block, 
 use Rattle.tree_nodes.specs.declared.table.Role.{Role}
 use Rattle.tree_nodes.specs.declared.table.Role.TheVariants.{Called, Declares, Plain, Read, ReadWrite, Write}
 use Rattle.tree_places.proofs.Outwards.{same-eq}
-use Rattle.tree_places.proofs.Runs.{AllOf, AllOf-push}
+use Rattle.list_laws.proofs.AllOf.{AllOf, AllOf_push, AllOf_reverse, AllOf_weaken, of_each}
 use Rattle.tree_places.specs.Lineage.{opens_var_scope}
 use Rattle.tree_places.specs.Open.{all_open}
 use Rattle.tree_places.specs.Places.{Around, Seen, Setting, Site, at_field, before_all, enter, hide, met, nothing_yet, opened, seen, side, sites, strict_in, walk, with_mark}
 use Rattle.tree_places.specs.Scopes.{Scope, is_inside, same_scope}
-use Rattle.scope_rules.proofs.Lists.{In}
+use Rattle.list_laws.proofs.Members.{In}
 
 -- ---- the nearest scope outwards whose number is that of a var scope
 
@@ -47,22 +48,8 @@ pub record Fits (v : ℕ → Bool) (n : ℕ) (e : Setting) : Type 0 where
 abbrev pub AllFit : (ℕ → Bool) → ℕ → List Site → Type 0
 AllFit v n ss = AllOf (λ q. Fits v n q.setting) ss
 
-pub AllOf-map : {X : Type 0} (P Q : X → Type 0) → ((x : X) → P x → Q x) → (xs : List X) → AllOf P xs → AllOf Q xs
-AllOf-map P Q f [] a = tt
-AllOf-map P Q f (x ∷ xs) a = (f x a.0, AllOf-map P Q f xs a.1)
 
-of-each : {X : Type 0} (P : X → Type 0) (xs : List X) (x : X) → AllOf P xs → In x xs → P x
-of-each P [] x a i = absurd i
-of-each {X} P (y ∷ ys) x a i = go i (of-each P ys x a.1)
-  where
-    go : (y ≡ x) ⊎ In x ys → (In x ys → P x) → P x
-    go (inl e) ih = subst P e a.0
-    go (inr j) ih = ih j
 
-pub AllOf-reverse : {X : Type 0} (P : X → Type 0) (xs : List X) → AllOf P xs → AllOf P (reverse xs)
-unfolding all_open
-AllOf-reverse P [] a = tt
-AllOf-reverse P (x ∷ xs) a = rw (reverse_onto xs x []) (AllOf-push P (reverse xs) x (AllOf-reverse P xs a.1) a.0)
 
 nearest-same : (u v : ℕ → Bool) (n : ℕ) (s : Scope) → Agree u v n → Below n s → nearest u s ≡ nearest v s
 nearest-same u v n [] f b = refl
@@ -70,13 +57,13 @@ nearest-same u v n (k ∷ ks) f b =
     ap (λ c. cond c (k ∷ ks) (nearest u ks)) (f k b.0) ∙ ap (λ (r : Scope). cond (v k) (k ∷ ks) r) (nearest-same u v n ks f b.1)
 
 below-more : (m n : ℕ) (s : Scope) → m ≤ n → Below m s → Below n s
-below-more m n s h b = AllOf-map (λ k. k < m) (λ k. k < n) (λ k i. omega (arith, h, i)) s b
+below-more m n s h b = AllOf_weaken (λ k. k < m) (λ k. k < n) (λ k i. omega (arith, h, i)) s b
 
 pub fits-more : (u v : ℕ → Bool) (m n : ℕ) (e : Setting) → m ≤ n → Agree u v m → Fits u m e → Fits v n e
 fits-more u v m n e h f p = record { below = below-more m n e.scope h p.below; near = sym (nearest-same u v m e.scope f p.below) ∙ p.near }
 
 all-more : (u v : ℕ → Bool) (m n : ℕ) (ss : List Site) → m ≤ n → Agree u v m → AllFit u m ss → AllFit v n ss
-all-more u v m n ss h f a = AllOf-map (λ q. Fits u m q.setting) (λ q. Fits v n q.setting) (λ q p. fits-more u v m n q.setting h f p) ss a
+all-more u v m n ss h f a = AllOf_weaken (λ q. Fits u m q.setting) (λ q. Fits v n q.setting) (λ q p. fits-more u v m n q.setting h f p) ss a
 
 -- the same, with whether the scope n is a var scope
 abbrev marked : (ℕ → Bool) → ℕ → Bool → ℕ → Bool
@@ -203,7 +190,7 @@ unfolding all_open
 near_all t =
     let none : ℕ → Bool = λ k. false in
     let a : After none nothing_yet (seen t) = walk-fits t (all unlisted) before_all nothing_yet none (record { below = tt; near = refl }) (record { below = tt; near = refl }) tt in
-    (a.vars, AllOf-reverse (Near a.vars) (seen t).sites (AllOf-map (λ q. Fits a.vars (length (seen t).scopes) q.setting) (Near a.vars) (λ q p. p.near) (seen t).sites a.placed))
+    (a.vars, AllOf_reverse (Near a.vars) (seen t).sites (AllOf_weaken (λ q. Fits a.vars (length (seen t).scopes) q.setting) (Near a.vars) (λ q p. p.near) (seen t).sites a.placed))
 
 -- what is found begins with a var scope
 heads : (v : ℕ → Bool) (x : Scope) (k : ℕ) (ks : Scope) → nearest v x ≡ k ∷ ks → v k ≡ true
@@ -230,8 +217,8 @@ pub hoisted : (t : Parts) (p q : Site) → In p (sites t) → In q (sites t) →
 unfolding all_open
 hoisted t p q i j h =
     let n : (v : ℕ → Bool) × AllOf (Near v) (sites t) = near_all t in
-    let at : nearest n.0 q.setting.scope ≡ q.setting.var_scope = of-each (Near n.0) (sites t) q n.1 j in
-    subst (λ (s : Scope). is_inside s q.setting.var_scope ≡ true) (of-each (Near n.0) (sites t) p n.1 i)
+    let at : nearest n.0 q.setting.scope ≡ q.setting.var_scope = of_each (Near n.0) (sites t) q n.1 j in
+    subst (λ (s : Scope). is_inside s q.setting.var_scope ≡ true) (of_each (Near n.0) (sites t) p n.1 i)
     (nearest-inside n.0 q.setting.var_scope p.setting.scope (λ k ks e. heads n.0 q.setting.scope k ks (at ∙ e)) h)
 
 -- ---- parameters and function-names
@@ -380,9 +367,6 @@ or_says : (a b : Bool) → (not a || b) ≡ true → a ≡ true → b ≡ true
 or_says true b h e = h
 or_says false b h e = no_role e
 
-not_true : (b : Bool) → not b ≡ true → b ≡ false
-not_true true h = absurd (both_ways false refl h)
-not_true false h = refl
 
 side-pinned : (b : Bool) (a : Around) → b ≡ false → a.outside.scope ≡ a.outside.var_scope → (side b a).scope ≡ (side b a).var_scope
 unfolding all_open
@@ -404,7 +388,7 @@ field-pinned c a o f i p h =
     go : ((not (pins c.mode) || (c.inside && opens_var_scope o)) ≡ true) × ((not (hands_on c.mode) || not c.inside) ≡ true)
         → (pins c.mode ≡ true) ⊎ ((hands_on c.mode ≡ true) × (is_pinned a.outside.role ≡ true)) → (side c.inside a).scope ≡ (side c.inside a).var_scope
     go two (inl e) = let both : (c.inside ≡ true) × (opens_var_scope o ≡ true) = and_parts _ _ (or_says _ _ two.0 e) in side-hoists c.inside a both.0 (i both.1)
-    go two (inr e) = side-pinned c.inside a (not_true _ (or_says _ _ two.1 e.0)) (p e.1)
+    go two (inr e) = side-pinned c.inside a (not-true _ (or_says _ _ two.1 e.0)) (p e.1)
 
 first_fits : (o : Opens) (cs : Along) → along_fits o cs ≡ true → column_fits o (first_column cs) ≡ true
 unfolding all_open
@@ -453,5 +437,5 @@ walk-pinned (child k b st fields more) columns a s o f i p r =
 -- a parameter or function-name stands in a var scope
 pub pinned : (t : Parts) (q : Site) → In q (sites t) → Pinned q.setting
 unfolding all_open
-pinned t q i = of-each (λ x. Pinned x.setting) (sites t) q (AllOf-reverse (λ x. Pinned x.setting) (seen t).sites
+pinned t q i = of_each (λ x. Pinned x.setting) (sites t) q (AllOf_reverse (λ x. Pinned x.setting) (seen t).sites
     (walk-pinned t (all unlisted) before_all nothing_yet Nothing refl (λ h. no_role h) (λ h. no_role h) tt)) i
