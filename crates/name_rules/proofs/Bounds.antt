@@ -13,13 +13,13 @@ use Rattle.scope_rules.proofs.SameNames.{same_name_tells, among_in, in_distinct,
 use Rattle.scope_rules.proofs.PlacesRise.{one_of_number}
 use Rattle.syntax_lex.specs.Keyword.{is_reserved_keyword, reserved_keywords}
 use Rattle.list_laws.proofs.Counting.{no_more}
-use Rattle.name_rules.proofs.Given.{members-at}
-use Rattle.name_rules.proofs.Mangling.{from-leading}
-use Rattle.name_rules.proofs.Order.{slots_are_fewest}
-use Rattle.name_rules.proofs.Rivals.{Led, groups-differ, led}
+use Rattle.name_rules.proofs.SlotNamesKeepApart.{members_at}
+use Rattle.name_rules.proofs.Mangling.{from_leading}
+use Rattle.name_rules.proofs.GroupsInOrder.{slots_are_fewest}
+use Rattle.name_rules.proofs.Rivals.{Led, groups_differ, led}
 use Rattle.list_laws.proofs.AllOf.{of_each}
-use Rattle.name_rules.proofs.SlotNamed.{slots-named}
-use Rattle.name_rules.proofs.Untaken.{candidate_one, free-different, free-length, passed, passed-different, passed-taken}
+use Rattle.name_rules.proofs.GivenNamesFit.{slot_names_in}
+use Rattle.name_rules.proofs.FirstUntaken.{candidate_one, free_different, free_names_length, passed, passed_different, passed_taken}
 use Rattle.name_rules.specs.Bounds.{BoundIsSmall, NamesAreBounded, forbidden}
 use Rattle.name_rules.specs.FreeNames.{first_untaken, is_taken, is_unchanged, is_variable}
 use Rattle.name_rules.specs.GivenNames.{count_from, free_names, names_of_slots, slot_names}
@@ -34,7 +34,7 @@ use Rattle.tree_nodes.specs.Table.{row, unlisted}
 use Rattle.tree_nodes.specs.Tree.{Parts, Text, atom, child, done, many}
 use Rattle.tree_nodes.specs.declared.table.Opens.{Opens}
 use Rattle.tree_nodes.specs.declared.table.Opens.TheVariants.{Nothing}
-use Rattle.tree_places.proofs.Numbers.{Numbered, walk-numbered}
+use Rattle.tree_places.proofs.Numbers.{Numbered, walk_numbered}
 use Rattle.tree_places.specs.Lineage.{count_nodes}
 use Rattle.tree_places.specs.Places.{Around, Place, Seen, Setting, Site, at_field, before_all, enter, hide, met, named_by, names, nothing_yet, places, seen, sites, walk}
 use Rattle.tree_places.specs.Scopes.{Scope}
@@ -46,9 +46,9 @@ use Rattle.scope_rules.specs.Homes.{home}
 
 -- ---- what is taken is forbidden
 
-taken-forbidden : (o : Options) (ms : List Member) (x : Text) → is_taken o ms x ≡ true → In x (forbidden o ms)
+taken_forbidden : (o : Options) (ms : List Member) (x : Text) → is_taken o ms x ≡ true → In x (forbidden o ms)
 unfolding all_open
-taken-forbidden o ms x h = first (or_cases _ _ h)
+taken_forbidden o ms x h = first (or_cases _ _ h)
   where
     kept_names : List Text
     kept_names = map (λ (m : Member). m.place.name) (filter is_unchanged ms)
@@ -122,10 +122,10 @@ name_free o t x i =
     let w : (k : ℕ) × (k < length (slot_names free weights)) × (get_or (slot_names free weights) k [] ≡ x) = found_at (slot_names free weights) x [] i in
     let as_long : length (slot_names free weights) ≡ length weights = length-map (count_from (length weights) 0) _ ∙ count_length (length weights) 0 in
     subst (λ (y : Text). In y free) w.2
-    (slots-named free weights (free-different o (members o t) n) (free-length o (members o t) n ∙ sym long) w.0 (subst (λ (m : ℕ). w.0 < m) as_long w.1))
+    (slot_names_in free weights (free_different o (members o t) n) (free_names_length o (members o t) n ∙ sym long) w.0 (subst (λ (m : ℕ). w.0 < m) as_long w.1))
 
-within : (r n v l : ℕ) → r < 0 + n + v → v ≤ l → r < n + l
-within r n v l h k = omega (arith, h, k)
+number_is_within : (r n v l : ℕ) → r < 0 + n + v → v ≤ l → r < n + l
+number_is_within r n v l h k = omega (arith, h, k)
 
 pub names_are_bounded : NamesAreBounded
 unfolding all_open
@@ -136,44 +136,44 @@ names_are_bounded o t x c =
     let over : List Text = passed (candidate o.readable) (candidate_one o.readable) (is_taken o ms) fuel n 0 in
     let r : Numbered_below (candidate o.readable) (candidate_one o.readable) (is_taken o ms) x 0 (0 + n + length over) =
     found_below (candidate o.readable) (candidate_one o.readable) (is_taken o ms) fuel n 0 x (name_free o t x (in_from_Contains (names_of_slots o t) x c)) in
-    let few : length over ≤ length (distinct (forbidden o ms)) = no_more same_name same_name_tells over (distinct (forbidden o ms)) (passed-different (candidate o.readable) (candidate_one o.readable) (is_taken o ms) fuel n 0)
-    (λ y i. in_distinct (forbidden o ms) y (taken-forbidden o ms y (of_each (λ z. is_taken o ms z ≡ true) over y (passed-taken (candidate o.readable) (candidate_one o.readable) (is_taken o ms) fuel n 0) i))) in
+    let few : length over ≤ length (distinct (forbidden o ms)) = no_more same_name same_name_tells over (distinct (forbidden o ms)) (passed_different (candidate o.readable) (candidate_one o.readable) (is_taken o ms) fuel n 0)
+    (λ y i. in_distinct (forbidden o ms) y (taken_forbidden o ms y (of_each (λ z. is_taken o ms z ≡ true) over y (passed_taken (candidate o.readable) (candidate_one o.readable) (is_taken o ms) fuel n 0) i))) in
     let b : r.number < 0 + n + length over = r.below in
-    (r.number, r.is, within r.number n (length over) (length (distinct (forbidden o ms))) b few)
+    (r.number, r.is, number_is_within r.number n (length over) (length (distinct (forbidden o ms))) b few)
 
 -- ---- how many
 
 
 
 
-in-all : (d f k r l n m : ℕ) → d ≤ f → f ≡ k + r → k ≡ 46 → r ≡ suc (suc l) → l ≡ n + m → d ≤ 48 + n + m
-in-all d f k r l n m a b c e g = omega (arith, a, b, c, e, g)
+in_all : (d f k r l n m : ℕ) → d ≤ f → f ≡ k + r → k ≡ 46 → r ≡ suc (suc l) → l ≡ n + m → d ≤ 48 + n + m
+in_all d f k r l n m a b c e g = omega (arith, a, b, c, e, g)
 
 how_many : length reserved_keywords ≡ 46
 unfolding all_open
 how_many = refl
 
-forbidden-most : (o : Options) (ms : List Member) → length (distinct (forbidden o ms)) ≤ 48 + length o.reserved + length (filter is_unchanged ms)
+forbidden_most : (o : Options) (ms : List Member) → length (distinct (forbidden o ms)) ≤ 48 + length o.reserved + length (filter is_unchanged ms)
 unfolding all_open
-forbidden-most o ms =
+forbidden_most o ms =
     let names : List Text = map (λ (m : Member). m.place.name) (filter is_unchanged ms) in
     let rest : List Text = name_eval ∷ name_arguments ∷ (o.reserved ++ names) in
-    in-all (length (distinct (forbidden o ms))) (length (forbidden o ms)) (length reserved_keywords) (length rest) (length (o.reserved ++ names)) (length o.reserved) (length (filter is_unchanged ms))
+    in_all (length (distinct (forbidden o ms))) (length (forbidden o ms)) (length reserved_keywords) (length rest) (length (o.reserved ++ names)) (length o.reserved) (length (filter is_unchanged ms))
     (distinct_after_most [] (forbidden o ms)) (length-append reserved_keywords rest) how_many refl
     (length-append o.reserved names ∙ ap (λ (k : ℕ). length o.reserved + k) (length-map (filter is_unchanged ms) (λ (m : Member). m.place.name)))
 
 -- a tree has no more slots than groups, and no more groups than places that lead one
-groups-most : (o : Options) (t : Parts) → length (groups_of o t) ≤ length (filter leads (members o t))
+groups_most : (o : Options) (t : Parts) → length (groups_of o t) ≤ length (filter leads (members o t))
 unfolding all_open
-groups-most o t =
+groups_most o t =
     let gs : List Group = groups_of o t in
     let ls : List Member = filter leads (members o t) in
     let few : length (map (λ (g : Group). g.leader) gs) ≤ length (map (λ (m : Member). node m.place) ls) =
     no_more nat_eq (λ x y. (eqb-true x y, eq-eqb x y)) (map (λ (g : Group). g.leader) gs) (map (λ (m : Member). node m.place) ls)
-    (different_map (λ (g : Group). g.leader) gs (groups-differ o t) one)
+    (different_map (λ (g : Group). g.leader) gs (groups_differ o t) one)
     (λ n i.
     let g : (g : Group) × In g gs × (g.leader ≡ n) = from_map (λ (g : Group). g.leader) gs n i in
-    let m : (m : Member) × In m (members o t) × (leads m ≡ true) × (group_led_by m ≡ g.0) = from-leading _ (members o t) g.0 g.1 in
+    let m : (m : Member) × In m (members o t) × (leads m ≡ true) × (group_led_by m ≡ g.0) = from_leading _ (members o t) g.0 g.1 in
     subst (λ (k : ℕ). In k (map (λ (m : Member). node m.place) ls)) (ap (λ (x : Group). x.leader) m.3 ∙ g.2)
     (in_map (λ (m : Member). node m.place) ls m.0 (in_filter leads (members o t) m.0 m.1 m.2))) in
     let a : length (map (λ (g : Group). g.leader) gs) ≡ length gs = length-map gs (λ (g : Group). g.leader) in
@@ -187,17 +187,17 @@ groups-most o t =
         let q : a.leader ≡ b.leader = one_of_number t a.leader b.leader (in_from_Contains (places t) a.leader a.is.among) (in_from_Contains (places t) b.leader b.is.among) (sym a.number ∙ e ∙ b.number) in
         ap (λ (k : ℕ). record { leader = k; home = g.home }) e ∙ ap (λ (z : Scope). record { leader = h.leader; home = z }) (a.homed ∙ ap (λ (x : Place). home x.site) q ∙ sym b.homed)
 
-slots-most : (o : Options) (t : Parts) → number_of_slots (slots_of o t) ≤ length (filter leads (members o t))
+slots_most : (o : Options) (t : Parts) → number_of_slots (slots_of o t) ≤ length (filter leads (members o t))
 unfolding all_open
-slots-most o t =
+slots_most o t =
     let a : number_of_slots (slots_of o t) ≡ greatest_width o t = slots_are_fewest o t in
     let b : greatest_width o t ≤ length (groups_of o t) = greatest_at_most (width (members o t) (groups_of o t)) _ (length (groups_of o t)) (λ s. filter_most (is_live (members o t) s) (groups_of o t)) in
-    let c : length (groups_of o t) ≤ length (filter leads (members o t)) = groups-most o t in
+    let c : length (groups_of o t) ≤ length (filter leads (members o t)) = groups_most o t in
     omega (arith, a, b, c)
 
-leads-changed : (m : Member) → leads m ≡ true → is_unchanged m ≡ false
+leads_changed : (m : Member) → leads m ≡ true → is_unchanged m ≡ false
 unfolding all_open
-leads-changed m h = go m.group (and_parts _ _ h).1
+leads_changed m h = go m.group (and_parts _ _ h).1
   where
     go : (g : Option ℕ) → is_node g (node m.place) ≡ true → (is_variable m && not (is_some g)) ≡ false
     go None e = absurd (both_ways false refl e)
@@ -209,60 +209,60 @@ leads-changed m h = go m.group (and_parts _ _ h).1
 
 -- ---- no more places than nodes
 
-met-nodes : (k : Opens) (b : ℕ) (e : Setting) (inner : Scope) (s : Seen) → (met k b e inner s).nodes ≡ suc s.nodes
+met_nodes : (k : Opens) (b : ℕ) (e : Setting) (inner : Scope) (s : Seen) → (met k b e inner s).nodes ≡ suc s.nodes
 unfolding all_open
-met-nodes Nothing b e inner s = refl
-met-nodes _ b e inner s = refl
+met_nodes Nothing b e inner s = refl
+met_nodes _ b e inner s = refl
 
-walk-nodes : (x : Parts) (columns : Along) (a : Around) (s : Seen) → (walk x columns a s).nodes ≡ count_nodes x + s.nodes
+walk_nodes : (x : Parts) (columns : Along) (a : Around) (s : Seen) → (walk x columns a s).nodes ≡ count_nodes x + s.nodes
 unfolding all_open
-walk-nodes done columns a s = omega arith
-walk-nodes (atom v more) columns a s = walk-nodes more (other_columns columns) a s
-walk-nodes (many items more) columns a s =
-    let h : (walk items (all (first_column columns)) a s).nodes ≡ count_nodes items + s.nodes = walk-nodes items (all (first_column columns)) a s in
-    let k : (walk more (other_columns columns) a (walk items (all (first_column columns)) a s)).nodes ≡ count_nodes more + (walk items (all (first_column columns)) a s).nodes = walk-nodes more (other_columns columns) a (walk items (all (first_column columns)) a s) in
+walk_nodes done columns a s = omega arith
+walk_nodes (atom v more) columns a s = walk_nodes more (other_columns columns) a s
+walk_nodes (many items more) columns a s =
+    let h : (walk items (all (first_column columns)) a s).nodes ≡ count_nodes items + s.nodes = walk_nodes items (all (first_column columns)) a s in
+    let k : (walk more (other_columns columns) a (walk items (all (first_column columns)) a s)).nodes ≡ count_nodes more + (walk items (all (first_column columns)) a s).nodes = walk_nodes more (other_columns columns) a (walk items (all (first_column columns)) a s) in
     omega (arith, h, k)
-walk-nodes (child k b e fields more) columns a s =
+walk_nodes (child k b e fields more) columns a s =
     let here : Setting = at_field (first_column columns) a in
     let around : Around = enter (row k) (hide k fields) here s in
     let s₁ : Seen = met (row k).opens b here around.inside.scope s in
     let s₂ : Seen = walk fields (each (row k).columns) around s₁ in
-    let h : s₁.nodes ≡ suc s.nodes = met-nodes (row k).opens b here around.inside.scope s in
-    let i : s₂.nodes ≡ count_nodes fields + s₁.nodes = walk-nodes fields (each (row k).columns) around s₁ in
-    let j : (walk more (other_columns columns) a s₂).nodes ≡ count_nodes more + s₂.nodes = walk-nodes more (other_columns columns) a s₂ in
+    let h : s₁.nodes ≡ suc s.nodes = met_nodes (row k).opens b here around.inside.scope s in
+    let i : s₂.nodes ≡ count_nodes fields + s₁.nodes = walk_nodes fields (each (row k).columns) around s₁ in
+    let j : (walk more (other_columns columns) a s₂).nodes ≡ count_nodes more + s₂.nodes = walk_nodes more (other_columns columns) a s₂ in
     omega (arith, h, i, j)
 
-sites-most : (n : ℕ) (ss : List Site) → Numbered n ss → length ss ≤ n
+sites_most : (n : ℕ) (ss : List Site) → Numbered n ss → length ss ≤ n
 unfolding all_open
-sites-most n [] p = omega arith
-sites-most n (s ∷ ss) p = let h : s.node < n = p.0 in let i : length ss ≤ s.node = sites-most s.node ss p.1 in omega (arith, h, i)
+sites_most n [] p = omega arith
+sites_most n (s ∷ ss) p = let h : s.node < n = p.0 in let i : length ss ≤ s.node = sites_most s.node ss p.1 in omega (arith, h, i)
 
-named-most : (ss : List Site) (xs : List Text) → length (named_by ss xs) ≤ length ss
+named_most : (ss : List Site) (xs : List Text) → length (named_by ss xs) ≤ length ss
 unfolding all_open
-named-most [] xs = none xs
+named_most [] xs = none xs
   where
     none : (ys : List Text) → length (named_by [] ys) ≤ 0
     none [] = omega arith
     none (y ∷ ys) = omega arith
-named-most (s ∷ ss) [] = omega arith
-named-most (s ∷ ss) (x ∷ xs) = let h : length (named_by ss xs) ≤ length ss = named-most ss xs in omega (arith, h)
+named_most (s ∷ ss) [] = omega arith
+named_most (s ∷ ss) (x ∷ xs) = let h : length (named_by ss xs) ≤ length ss = named_most ss xs in omega (arith, h)
 
-members-most : (o : Options) (t : Parts) → length (members o t) ≤ count_nodes t
+members_most : (o : Options) (t : Parts) → length (members o t) ≤ count_nodes t
 unfolding all_open
-members-most o t =
-    let a : length (members o t) ≡ length (places t) = ap length (members-at o t) ∙ length-map (places t) _ in
-    let b : length (places t) ≤ length (sites t) = named-most (sites t) (names t) in
+members_most o t =
+    let a : length (members o t) ≡ length (places t) = ap length (members_at o t) ∙ length-map (places t) _ in
+    let b : length (places t) ≤ length (sites t) = named_most (sites t) (names t) in
     let c : length (sites t) ≡ length (seen t).sites = length-reverse (seen t).sites in
-    let d : length (seen t).sites ≤ (seen t).nodes = sites-most (seen t).nodes (seen t).sites (walk-numbered t (all unlisted) before_all nothing_yet tt) in
-    let e : (seen t).nodes ≡ count_nodes t + 0 = walk-nodes t (all unlisted) before_all nothing_yet in
+    let d : length (seen t).sites ≤ (seen t).nodes = sites_most (seen t).nodes (seen t).sites (walk_numbered t (all unlisted) before_all nothing_yet tt) in
+    let e : (seen t).nodes ≡ count_nodes t + 0 = walk_nodes t (all unlisted) before_all nothing_yet in
     omega (arith, a, b, c, d, e)
 
-below-all : (n l f r u m k : ℕ) → n ≤ l → f ≤ 48 + r + u → l + u ≤ m → m ≤ k → k + r < 2 ^ 30 → n + f < 2 ^ 31
-below-all n l f r u m k a b c d h = omega (arith, a, b, c, d, h)
+below_all : (n l f r u m k : ℕ) → n ≤ l → f ≤ 48 + r + u → l + u ≤ m → m ≤ k → k + r < 2 ^ 30 → n + f < 2 ^ 31
+below_all n l f r u m k a b c d h = omega (arith, a, b, c, d, h)
 
 pub bound_is_small : BoundIsSmall
 unfolding all_open
 bound_is_small o t h =
     let ms : List Member = members o t in
-    below-all (number_of_slots (slots_of o t)) (length (filter leads ms)) (length (distinct (forbidden o ms))) (length o.reserved) (length (filter is_unchanged ms)) (length ms) (count_nodes t)
-    (slots-most o t) (forbidden-most o ms) (two_filters_most leads is_unchanged ms leads-changed) (members-most o t) h
+    below_all (number_of_slots (slots_of o t)) (length (filter leads ms)) (length (distinct (forbidden o ms))) (length o.reserved) (length (filter is_unchanged ms)) (length ms) (count_nodes t)
+    (slots_most o t) (forbidden_most o ms) (two_filters_most leads is_unchanged ms leads_changed) (members_most o t) h

@@ -3,7 +3,7 @@ use Rattle.std.specs.Prelude.{◌≡◌, ◌⊎◌, ℕ, ◌≤◌, max, true, L
 use Rattle.std.specs.List.{list_any}
 use Rattle.std.proofs.Common.{refl, subst, arith, inl, inr}
 use Rattle.std.proofs.lemmas.Bool.{or_cases, both_ways}
-use Rattle.tree_places.proofs.Outwards.{same-eq}
+use Rattle.tree_places.proofs.Outwards.{same_scope_eq}
 use Rattle.tree_places.specs.Scopes.{Scope, same_scope}
 use Rattle.name_rules.specs.Groups.{greatest}
 use Rattle.name_rules.specs.Open.{all_open}
@@ -19,5 +19,5 @@ greatest_at f [] s h = absurd (both_ways _ refl h)
 greatest_at f (r ∷ rs) s h = go (or_cases _ _ h) (greatest_at f rs s)
   where
     go : (same_scope s r ≡ true) ⊎ (list_any (same_scope s) rs ≡ true) → (list_any (same_scope s) rs ≡ true → f s ≤ greatest (map f rs)) → f s ≤ max (f r) (greatest (map f rs))
-    go (inl e) ih = subst (λ (x : Scope). f s ≤ max (f x) (greatest (map f rs))) (same-eq s r e) (omega arith)
+    go (inl e) ih = subst (λ (x : Scope). f s ≤ max (f x) (greatest (map f rs))) (same_scope_eq s r e) (omega arith)
     go (inr e) ih = let i : f s ≤ greatest (map f rs) = ih e in omega arith

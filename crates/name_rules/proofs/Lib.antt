@@ -1,29 +1,29 @@
 -- numbers and short names
 pub mod CountFrom
 pub mod Greatest
-pub mod Numbered
+pub mod ShortNumbers
 pub mod Characters
 pub mod Identifiers
 
 -- groups and their slots
-pub mod Apart
-pub mod Together
-pub mod Fewest
-pub mod Order
+pub mod GroupsStandApart
+pub mod LiveTogether
+pub mod SlotsAreFewest
+pub mod GroupsInOrder
 
 -- names that are given by slot
-pub mod Given
-pub mod Untaken
+pub mod SlotNamesKeepApart
+pub mod FirstUntaken
 pub mod Ranks
-pub mod SlotNamed
-pub mod Renamed
+pub mod GivenNamesFit
+pub mod GivenNamesKeepBindings
 
 -- private names
-pub mod Passing
+pub mod NthUnlisted
 pub mod PrivateChains
 
 -- trees under new names
-pub mod Used
+pub mod SlotsAreUsed
 pub mod Mangling
 
 -- rivals, bounds and costs

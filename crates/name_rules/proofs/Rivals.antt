@@ -14,10 +14,10 @@ use Rattle.list_laws.proofs.PairsOf.{PairsOf_weaken, PairsOf_filter, different_m
 use Rattle.scope_rules.proofs.SameNames.{same_name_tells, in_distinct}
 use Rattle.scope_rules.proofs.PlacesRise.{one_of_number}
 use Rattle.list_laws.proofs.Counting.{no_more}
-use Rattle.name_rules.proofs.Given.{Leader, group_own, leader_of, member_at, members-at, not_kept}
-use Rattle.name_rules.proofs.Mangling.{from-leading}
-use Rattle.name_rules.proofs.Together.{live_together}
-use Rattle.name_rules.proofs.Used.{leaders-apart}
+use Rattle.name_rules.proofs.SlotNamesKeepApart.{Leader, group_own, leader_of, member_at, members_at, not_kept}
+use Rattle.name_rules.proofs.Mangling.{from_leading}
+use Rattle.name_rules.proofs.LiveTogether.{live_together}
+use Rattle.name_rules.proofs.SlotsAreUsed.{leaders_apart}
 use Rattle.name_rules.specs.Groups.{Group, Member, greatest, greatest_width, group_at, group_led_by, group_of, groups_of, is_live, leads, members, reaches, width}
 use Rattle.name_rules.specs.Kept.{kept_alone}
 use Rattle.name_rules.specs.Mangled.{IsRival, changes, implied, names_where}
@@ -29,14 +29,14 @@ use Rattle.tree_nodes.specs.Tree.{Parts, Text}
 use Rattle.tree_nodes.specs.declared.table.Declared.TheVariants.{FunctionName}
 use Rattle.tree_nodes.specs.declared.table.Role.{Role}
 use Rattle.tree_nodes.specs.declared.table.Role.TheVariants.{Declares}
-use Rattle.tree_places.proofs.Blind.{sites-renamed}
-use Rattle.tree_places.proofs.Outwards.{inside-antisym, same-eq, same-refl}
+use Rattle.tree_places.proofs.Blind.{sites_renamed}
+use Rattle.tree_places.proofs.Outwards.{inside_antisym, same_scope_eq, same_scope_refl}
 use Rattle.tree_places.proofs.Rising.{numbers_rise}
 use Rattle.tree_places.specs.Places.{Place, Site, named_by, names, places, scopes, sites, withs}
 use Rattle.tree_places.specs.Scopes.{Scope, first_outwards, is_inside, same_scope}
 use Rattle.list_laws.proofs.Members.{In, contains_from_in, in_from_Contains, from_filter, from_map}
-use Rattle.scope_rules.proofs.Separate.{names_separate}
-use Rattle.scope_rules.proofs.Stay.{At, binder_source, binding_function, binding_plain, binding_refers, binding_source, declares_plain, first_own, plainly}
+use Rattle.scope_rules.proofs.NamesSeparate.{names_separate}
+use Rattle.scope_rules.proofs.BindingsStay.{At, binder_source, binding_function, binding_plain, binding_refers, binding_source, declares_plain, first_own, plainly}
 use Rattle.scope_rules.specs.Bindings.{Bound, binder, binding, bound, declares_at, is_node, names_function_at, node, node_of, or_else, plain_binder, same_name, shadower}
 use Rattle.scope_rules.specs.Faults.{has_crossing}
 use Rattle.scope_rules.specs.Homes.{declares, declares_plainly, home, is_function_name, is_var, names_function, refers}
@@ -71,11 +71,11 @@ partner (s ∷ ss) (x ∷ xs) (y ∷ ys) p h i = go i (partner ss xs ys p (omega
     go (inl e) ih = (record { site = s; name = y }, inl (e, refl), ap (λ (z : Place). z.site) e)
     go (inr j) ih = let r : (q : Place) × Beside p q (named_by ss xs) (named_by ss ys) × (q.site ≡ p.site) = ih j in (r.0, inr r.1, r.2)
 
-beside-in : (p q : Place) (ps qs : List Place) → Beside p q ps qs → In q qs
+beside_in : (p q : Place) (ps qs : List Place) → Beside p q ps qs → In q qs
 unfolding Beside
-beside-in p q [] ys b = absurd b
-beside-in p q (x ∷ xs) [] b = absurd b
-beside-in p q (x ∷ xs) (y ∷ ys) b = go b (beside-in p q xs ys)
+beside_in p q [] ys b = absurd b
+beside_in p q (x ∷ xs) [] b = absurd b
+beside_in p q (x ∷ xs) (y ∷ ys) b = go b (beside_in p q xs ys)
   where
     go : ((x ≡ p) × (y ≡ q)) ⊎ Beside p q xs ys → (Beside p q xs ys → In q ys) → In q (y ∷ ys)
     go (inl e) ih = inl e.1
@@ -83,21 +83,21 @@ beside-in p q (x ∷ xs) (y ∷ ys) b = go b (beside-in p q xs ys)
 
 
 
-beside-same : {Y : Type 0} (f g : Place → Y) (p q : Place) (ps qs : List Place) → map f ps ≡ map g qs → Beside p q ps qs → f p ≡ g q
+beside_same : {Y : Type 0} (f g : Place → Y) (p q : Place) (ps qs : List Place) → map f ps ≡ map g qs → Beside p q ps qs → f p ≡ g q
 unfolding Beside first_or past_first
-beside-same f g p q [] ys e b = absurd b
-beside-same f g p q (x ∷ xs) [] e b = absurd b
-beside-same {Y} f g p q (x ∷ xs) (y ∷ ys) e b = go b (beside-same f g p q xs ys (ap past_first e))
+beside_same f g p q [] ys e b = absurd b
+beside_same f g p q (x ∷ xs) [] e b = absurd b
+beside_same {Y} f g p q (x ∷ xs) (y ∷ ys) e b = go b (beside_same f g p q xs ys (ap past_first e))
   where
     go : ((x ≡ p) × (y ≡ q)) ⊎ Beside p q xs ys → (Beside p q xs ys → f p ≡ g q) → f p ≡ g q
     go (inl s) ih = sym (ap f s.0) ∙ ap (first_or (f x)) e ∙ ap g s.1
     go (inr c) ih = ih c
 
-beside-implied : (f g : Place → Bool) (p q : Place) (ps qs : List Place) → implied (map f ps) (map g qs) ≡ true → Beside p q ps qs → f p ≡ true → g q ≡ true
+beside_implied : (f g : Place → Bool) (p q : Place) (ps qs : List Place) → implied (map f ps) (map g qs) ≡ true → Beside p q ps qs → f p ≡ true → g q ≡ true
 unfolding all_open Beside
-beside-implied f g p q [] ys e b h = absurd b
-beside-implied f g p q (x ∷ xs) [] e b h = absurd b
-beside-implied f g p q (x ∷ xs) (y ∷ ys) e b h = go b (and_parts _ _ e) (beside-implied f g p q xs ys)
+beside_implied f g p q [] ys e b h = absurd b
+beside_implied f g p q (x ∷ xs) [] e b h = absurd b
+beside_implied f g p q (x ∷ xs) (y ∷ ys) e b h = go b (and_parts _ _ e) (beside_implied f g p q xs ys)
   where
     says : (a c : Bool) → (not a || c) ≡ true → a ≡ true → c ≡ true
     says true c k l = k
@@ -107,11 +107,11 @@ beside-implied f g p q (x ∷ xs) (y ∷ ys) e b h = go b (and_parts _ _ e) (bes
     go (inl s) two ih = subst (λ (z : Place). g z ≡ true) s.1 (says (f x) (g y) two.0 (subst (λ (z : Place). f z ≡ true) (sym s.0) h))
     go (inr c) two ih = ih two.1 c h
 
-beside-named : (test : Member → Bool) (f : Place → Member) (p q : Place) (ps qs : List Place) → Beside p q ps qs → test (f p) ≡ true → In q.name (names_where test (map f ps) qs)
+beside_named : (test : Member → Bool) (f : Place → Member) (p q : Place) (ps qs : List Place) → Beside p q ps qs → test (f p) ≡ true → In q.name (names_where test (map f ps) qs)
 unfolding all_open Beside
-beside-named test f p q [] ys b h = absurd b
-beside-named test f p q (x ∷ xs) [] b h = absurd b
-beside-named test f p q (x ∷ xs) (y ∷ ys) b h = go (test (f x)) refl b (beside-named test f p q xs ys)
+beside_named test f p q [] ys b h = absurd b
+beside_named test f p q (x ∷ xs) [] b h = absurd b
+beside_named test f p q (x ∷ xs) (y ∷ ys) b h = go (test (f x)) refl b (beside_named test f p q xs ys)
   where
     go : (t : Bool) → test (f x) ≡ t → ((x ≡ p) × (y ≡ q)) ⊎ Beside p q xs ys → (Beside p q xs ys → test (f p) ≡ true → In q.name (names_where test (map f xs) ys))
         → In q.name (cond t (y.name ∷ names_where test (map f xs) ys) (names_where test (map f xs) ys))
@@ -219,8 +219,8 @@ module _ (o : Options) (t : Parts) where
   pub led : (g : Group) → In g (groups_of o t) → Led g
   unfolding all_open member_at
   led g i =
-      let w : (m : Member) × In m (members o t) × (leads m ≡ true) × (group_led_by m ≡ g) = from-leading (scopes t) (members o t) g i in
-      let p : (p : Place) × In p (places t) × (member_at o t p ≡ w.0) = from_map (member_at o t) (places t) w.0 (subst (In w.0) (members-at o t) w.1) in
+      let w : (m : Member) × In m (members o t) × (leads m ≡ true) × (group_led_by m ≡ g) = from_leading (scopes t) (members o t) g i in
+      let p : (p : Place) × In p (places t) × (member_at o t p ≡ w.0) = from_map (member_at o t) (places t) w.0 (subst (In w.0) (members_at o t) w.1) in
       let l : leads (member_at o t p.0) ≡ true = subst (λ (m : Member). leads m ≡ true) (sym p.2) w.2 in
       let two : ((declares p.0.site && is_node (binding same_name (places t) p.0) (node p.0)) ≡ true) × (is_node (group_in o t p.0) (node p.0) ≡ true) = and_parts _ _ l in
       let three : (declares p.0.site ≡ true) × (is_node (binding same_name (places t) p.0) (node p.0) ≡ true) = and_parts _ _ two.0 in
@@ -238,15 +238,15 @@ module _ (o : Options) (t : Parts) where
   live_leader g d s live = go (or_cases _ _ live)
     where
       here : s ≡ home d.leader.site → is_live_in same_name (places t) d.leader s ≡ true
-      here e = or_left _ _ (subst (λ (x : Scope). same_scope s x ≡ true) e (same-refl s))
+      here e = or_left _ _ (subst (λ (x : Scope). same_scope s x ≡ true) e (same_scope_refl s))
 
       go : (same_scope s g.home ≡ true) ⊎ ((is_inside s g.home && list_any (reaches g s) (members o t)) ≡ true) → is_live_in same_name (places t) d.leader s ≡ true
-      go (inl e) = here (same-eq s g.home e ∙ d.homed)
+      go (inl e) = here (same_scope_eq s g.home e ∙ d.homed)
       go (inr e) =
           let two : (is_inside s g.home ≡ true) × (list_any (reaches g s) (members o t) ≡ true) = and_parts _ _ e in
           let inside : is_inside s (home d.leader.site) ≡ true = subst (λ (x : Scope). is_inside s x ≡ true) d.homed two.0 in
           let w : (m : Member) × In m (members o t) × (reaches g s m ≡ true) = any_some (reaches g s) (members o t) two.1 in
-          let q : (q : Place) × In q (places t) × (member_at o t q ≡ w.0) = from_map (member_at o t) (places t) w.0 (subst (In w.0) (members-at o t) w.1) in
+          let q : (q : Place) × In q (places t) × (member_at o t q ≡ w.0) = from_map (member_at o t) (places t) w.0 (subst (In w.0) (members_at o t) w.1) in
           let three : (is_node (group_in o t q.0) g.leader ≡ true) × (is_inside q.0.site.setting.scope s ≡ true) = and_parts _ _ (subst (λ (m : Member). reaches g s m ≡ true) (sym q.2) w.2) in
           let group : group_in o t q.0 ≡ Some (node d.leader) = node_told (group_in o t q.0) g.leader three.0 ∙ ap Some d.number in
           told (binding same_name (places t) q.0)
@@ -268,17 +268,17 @@ module _ (o : Options) (t : Parts) where
               let c : (c : Place) × Leader o t b c (node d.leader) = leader_of o t b (node d.leader) ib own in
               let z : c.0 ≡ d.leader = one_of_number t c.0 d.leader (in_from_Contains (places t) c.0 c.1.is.among) (in_from_Contains (places t) d.leader d.is.among) c.1.number in
               let at : home d.leader.site ≡ b.site.setting.scope = sym (ap (λ (x : Place). home x.site) z) ∙ c.1.homed ∙ function_home b.site (shadowed t b l sh).function_name in
-              here (inside-antisym s (home d.leader.site) inside (subst (λ (x : Scope). is_inside x s ≡ true) (ap (λ (x : Place). x.site.setting.scope) a ∙ sym at) deep)))
+              here (inside_antisym s (home d.leader.site) inside (subst (λ (x : Scope). is_inside x s ≡ true) (ap (λ (x : Place). x.site.setting.scope) a ∙ sym at) deep)))
 
   -- no group comes twice
-  pub groups-differ : PairsOf Other (groups_of o t)
-  groups-differ = PairsOf_weaken (λ (g h : Group). g.leader ≡ h.leader → ⊥) Other (λ g h f e. f (ap (λ (x : Group). x.leader) e)) (groups_of o t) (leaders-apart o t)
+  pub groups_differ : PairsOf Other (groups_of o t)
+  groups_differ = PairsOf_weaken (λ (g h : Group). g.leader ≡ h.leader → ⊥) Other (λ g h f e. f (ap (λ (x : Group). x.leader) e)) (groups_of o t) (leaders_apart o t)
 
   -- ---- a rival
 
   module _ (w : Parts) (alone : function_names_apart (sites t) ≡ true) (r : IsRival t o w) where
     same_sites : sites w ≡ sites t
-    same_sites = sites-renamed t w r.renamed
+    same_sites = sites_renamed t w r.renamed
 
     places_w : places w ≡ named_by (sites t) (names w)
     unfolding all_open
@@ -296,11 +296,11 @@ module _ (o : Options) (t : Parts) where
         let h : length (names w) ≡ length (sites t) = (numbers_rise w).2 ∙ ap length same_sites in
         let q : (q : Place) × Beside p q (named_by (sites t) (names t)) (named_by (sites t) (names w)) × (q.site ≡ p.site) = partner (sites t) (names t) (names w) p h i in
         let b : Beside p q.0 (places t) (places w) = subst (Beside p q.0 (places t)) (sym places_w) q.1 in
-        record { place = q.0; beside = b; site = q.2; among = beside-in p q.0 (places t) (places w) b }
+        record { place = q.0; beside = b; site = q.2; among = beside_in p q.0 (places t) (places w) b }
 
     same_binding : (p : Place) (u : Under p) → binding same_name (places w) u.place ≡ binding same_name (places t) p
     unfolding all_open
-    same_binding p u = sym (beside-same (binding same_name (places t)) (binding same_name (places w)) p u.place (places t) (places w) (sym r.bound) u.beside)
+    same_binding p u = sym (beside_same (binding same_name (places t)) (binding same_name (places w)) p u.place (places t) (places w) (sym r.bound) u.beside)
 
     same_node : (p : Place) (u : Under p) → node u.place ≡ node p
     unfolding all_open
@@ -346,7 +346,7 @@ module _ (o : Options) (t : Parts) where
         let f : names_function u.place.site ≡ true = (shadowed w u.place n s).function_name in
         let was : names_function d.leader.site ≡ true = subst (λ (x : Site). names_function x ≡ true) u.site f in
         let now : (names_function u.place.site && is_none (shadower same_name (places w) u.place)) ≡ true =
-        beside-implied (λ p. names_function p.site && is_none (shadower same_name (places t) p)) (λ p. names_function p.site && is_none (shadower same_name (places w) p)) d.leader u.place (places t) (places w) r.shadows u.beside
+        beside_implied (λ p. names_function p.site && is_none (shadower same_name (places t) p)) (λ p. names_function p.site && is_none (shadower same_name (places w) p)) d.leader u.place (places t) (places w) r.shadows u.beside
         (and_from _ _ was (ap is_none none)) in
         both_ways _ (ap is_none s) (and_parts _ _ now).1)
         (λ l e.
@@ -416,8 +416,8 @@ module _ (o : Options) (t : Parts) where
         let u : Under d.leader = under_w d.leader (in_from_Contains (places t) d.leader d.is.among) in
         subst (λ (x : Text). In x used) (sym (named g d u))
         (in_distinct (names_where changes (members o t) (places w)) u.place.name
-        (subst (λ (ms : List Member). In u.place.name (names_where changes ms (places w))) (sym (members-at o t))
-        (beside-named changes (member_at o t) d.leader u.place (places t) (places w) u.beside (ap is_some d.group))))
+        (subst (λ (ms : List Member). In u.place.name (names_where changes ms (places w))) (sym (members_at o t))
+        (beside_named changes (member_at o t) d.leader u.place (places t) (places w) u.beside (ap is_some d.group))))
 
     narrow : (s : Scope) → width (members o t) (groups_of o t) s ≤ length used
     unfolding all_open
@@ -425,7 +425,7 @@ module _ (o : Options) (t : Parts) where
         let live : List Group = filter (is_live (members o t) s) (groups_of o t) in
         subst (λ (n : ℕ). n ≤ length used) (length-map live name_of)
         (no_more same_name same_name_tells (map name_of live) used
-        (different_map name_of live (PairsOf_filter Other (is_live (members o t) s) (groups_of o t) groups-differ) (one_group s))
+        (different_map name_of live (PairsOf_filter Other (is_live (members o t) s) (groups_of o t) groups_differ) (one_group s))
         (λ x i. let y : (g : Group) × In g live × (name_of g ≡ x) = from_map name_of live x i in
         subst (λ (z : Text). In z used) y.2 (each_used y.0 (from_filter (is_live (members o t) s) (groups_of o t) y.0 y.1).0)))
 

@@ -11,14 +11,14 @@ use Rattle.list_laws.proofs.PairsOf.{PairsOf_filter, different_map, PairsOf}
 use Rattle.scope_rules.proofs.SameNames.{same_name_tells}
 use Rattle.name_rules.proofs.Bounds.{Numbered_below, found_below}
 use Rattle.list_laws.proofs.Counting.{no_more}
-use Rattle.name_rules.proofs.Given.{Placed, member_at, members-at}
-use Rattle.name_rules.proofs.Mangling.{grouped_open, new, new_open, places-new, slot_name_of, used_name}
-use Rattle.name_rules.proofs.Numbered.{lengths_never_fall}
-use Rattle.name_rules.proofs.Ranks.{in-count}
-use Rattle.name_rules.proofs.SlotNamed.{given_name_in, given_names_fit, heavier-shorter}
-use Rattle.name_rules.proofs.Spelled.{spelled-short}
-use Rattle.name_rules.proofs.Totals.{no_dearer, one_more, total, total-same, total_none}
-use Rattle.name_rules.proofs.Untaken.{candidate_one, free-different, free-length}
+use Rattle.name_rules.proofs.SlotNamesKeepApart.{Placed, member_at, members_at}
+use Rattle.name_rules.proofs.Mangling.{grouped_open, new, new_open, places_new, slot_name_of, used_name}
+use Rattle.name_rules.proofs.ShortNumbers.{lengths_never_fall}
+use Rattle.name_rules.proofs.Ranks.{in_count}
+use Rattle.name_rules.proofs.GivenNamesFit.{given_name_in, given_names_fit, heavier_shorter}
+use Rattle.name_rules.proofs.Spelled.{spelled_short}
+use Rattle.name_rules.proofs.Totals.{no_dearer, one_more, total, total_same, total_none}
+use Rattle.name_rules.proofs.FirstUntaken.{candidate_one, free_different, free_names_length}
 use Rattle.name_rules.specs.FreeNames.{first_untaken, is_free, is_spelled, is_taken}
 use Rattle.name_rules.specs.GivenNames.{count_from, free_names, names_of_slots}
 use Rattle.name_rules.specs.Groups.{Member, members}
@@ -131,19 +131,19 @@ chosen_there p q g f (m ∷ ms) (u ∷ us) (w ∷ ws) e = go (p m) (q m) refl re
     go false true h k d ih = absurd (both_ways _ h (f m k))
     go false false h k d ih = ih d
 
-map-map-length : (g : Text → Text) (xs : List Text) → map length (map g xs) ≡ map (λ x. length (g x)) xs
-map-map-length g [] = refl
-map-map-length g (x ∷ xs) = ap (λ ys. length (g x) ∷ ys) (map-map-length g xs)
+map_map_length : (g : Text → Text) (xs : List Text) → map length (map g xs) ≡ map (λ x. length (g x)) xs
+map_map_length g [] = refl
+map_map_length g (x ∷ xs) = ap (λ ys. length (g x) ∷ ys) (map_map_length g xs)
 
-fold-add : (a : ℕ) (xs : List ℕ) → fold ◌+◌ a xs ≡ a + fold ◌+◌ 0 xs
-fold-add a [] = omega arith
-fold-add a (x ∷ xs) =
-    let h : fold ◌+◌ (a + x) xs ≡ (a + x) + fold ◌+◌ 0 xs = fold-add (a + x) xs in
-    let k : fold ◌+◌ (0 + x) xs ≡ (0 + x) + fold ◌+◌ 0 xs = fold-add (0 + x) xs in
+fold_add : (a : ℕ) (xs : List ℕ) → fold ◌+◌ a xs ≡ a + fold ◌+◌ 0 xs
+fold_add a [] = omega arith
+fold_add a (x ∷ xs) =
+    let h : fold ◌+◌ (a + x) xs ≡ (a + x) + fold ◌+◌ 0 xs = fold_add (a + x) xs in
+    let k : fold ◌+◌ (0 + x) xs ≡ (0 + x) + fold ◌+◌ 0 xs = fold_add (0 + x) xs in
     omega (arith, h, k)
 
-sum-cons : (x : ℕ) (xs : List ℕ) → sum (x ∷ xs) ≡ x + sum xs
-sum-cons x xs = let h : fold ◌+◌ (0 + x) xs ≡ (0 + x) + fold ◌+◌ 0 xs = fold-add (0 + x) xs in omega (arith, h)
+sum_cons : (x : ℕ) (xs : List ℕ) → sum (x ∷ xs) ≡ x + sum xs
+sum_cons x xs = let h : fold ◌+◌ (0 + x) xs ≡ (0 + x) + fold ◌+◌ 0 xs = fold_add (0 + x) xs in omega (arith, h)
 
 -- ---- a tree under its new names
 
@@ -180,18 +180,18 @@ module _ (o : Options) (t u : Parts) (has : HasNewNames o t u) where
 
     skipped : (p : Place) (ps : List Place) → ((k : ℕ) → refers_to k (member_at o t p) ≡ false) → right (p ∷ ps) ≡ right ps
     unfolding all_open member_at
-    skipped p ps h = total-same (λ k. length (filter (refers_to k) (map (member_at o t) (p ∷ ps))) * count (name k)) (λ k. length (filter (refers_to k) (map (member_at o t) ps)) * count (name k)) ks
+    skipped p ps h = total_same (λ k. length (filter (refers_to k) (map (member_at o t) (p ∷ ps))) * count (name k)) (λ k. length (filter (refers_to k) (map (member_at o t) ps)) * count (name k)) ks
         (λ k i. ap (λ b. length (cond b (member_at o t p ∷ filter (refers_to k) (map (member_at o t) ps)) (filter (refers_to k) (map (member_at o t) ps))) * count (name k)) (h k))
 
     taken_in : (p : Place) (ps : List Place) (k₀ : ℕ) → k₀ < slotted → ((k : ℕ) → refers_to k (member_at o t p) ≡ nat_eq k₀ k) → right (p ∷ ps) ≡ count (name k₀) + right ps
     unfolding all_open member_at
     taken_in p ps k₀ l h =
-        total-same (λ k. length (filter (refers_to k) (map (member_at o t) (p ∷ ps))) * count (name k))
+        total_same (λ k. length (filter (refers_to k) (map (member_at o t) (p ∷ ps))) * count (name k))
         (λ k. cond (nat_eq k₀ k) (suc (length (filter (refers_to k) (map (member_at o t) ps)))) (length (filter (refers_to k) (map (member_at o t) ps))) * count (name k)) ks
         (λ k i. ap (λ n. n * count (name k)) (ap (λ b. length (cond b (member_at o t p ∷ filter (refers_to k) (map (member_at o t) ps)) (filter (refers_to k) (map (member_at o t) ps)))) (h k)
         ∙ either (nat_eq k₀ k) (member_at o t p) (filter (refers_to k) (map (member_at o t) ps))))
         ∙ one_more k₀ (λ k. length (filter (refers_to k) (map (member_at o t) ps))) (λ k. count (name k)) ks (count_apart slotted 0)
-        (subst (λ (m : ℕ). In m ks) (let e : k₀ + 0 ≡ k₀ = omega arith in e) (in-count slotted 0 k₀ l))
+        (subst (λ (m : ℕ). In m ks) (let e : k₀ + 0 ≡ k₀ = omega arith in e) (in_count slotted 0 k₀ l))
       where
         either : (b : Bool) (m : Member) (ms : List Member) → length (cond b (m ∷ ms) ms) ≡ cond b (suc (length ms)) (length ms)
         either true m ms = refl
@@ -221,7 +221,7 @@ module _ (o : Options) (t u : Parts) (has : HasNewNames o t u) where
             let called : new o t u has p ≡ name d.slotted.slot = new_open o t u has p (grouped_open o t u has p g (grouped p g e)) ∙ d.called in
             let here : right (p ∷ ps) ≡ count (name d.slotted.slot) + right ps = taken_in p ps d.slotted.slot d.below (λ k. member_group k r ∙ ap (λ y. is_node (slot_of (slots_of o t) y) k) e ∙ ap (λ y. is_node y k) d.found) in
             ap (λ b. sum (map count (cond b (new o t u has p ∷ names_where refers_changed (map (member_at o t) ps) (map (under (new o t u has)) ps)) (names_where refers_changed (map (member_at o t) ps) (map (under (new o t u has)) ps))))) (ap is_some e)
-            ∙ sum-cons (count (new o t u has p)) (map count (names_where refers_changed (map (member_at o t) ps) (map (under (new o t u has)) ps)))
+            ∙ sum_cons (count (new o t u has p)) (map count (names_where refers_changed (map (member_at o t) ps) (map (under (new o t u has)) ps)))
             ∙ ap (λ x. count x + left ps) called ∙ ap (λ n. count (name d.slotted.slot) + n) ih ∙ sym here
 
         go : (r : Bool) → refers p.site ≡ r → left ps ≡ right ps → sum (map count (cond (refers p.site && changes (member_at o t p)) (new o t u has p ∷ names_where refers_changed (map (member_at o t) ps) (map (under (new o t u has)) ps)) (names_where refers_changed (map (member_at o t) ps) (map (under (new o t u has)) ps)))) ≡ right (p ∷ ps)
@@ -233,10 +233,10 @@ module _ (o : Options) (t u : Parts) (has : HasNewNames o t u) where
     in_sum : sum (map count (names_where refers_changed (members o t) (places u))) ≡ total (λ k. heavy k * count (name k)) ks
     unfolding all_open member_at
     in_sum =
-        ap (λ (us : List Place). sum (map count (names_where refers_changed (members o t) us))) (places-new o t u has)
-        ∙ ap (λ (ms : List Member). sum (map count (names_where refers_changed ms (map (under (new o t u has)) (places t))))) (members-at o t)
+        ap (λ (us : List Place). sum (map count (names_where refers_changed (members o t) us))) (places_new o t u has)
+        ∙ ap (λ (ms : List Member). sum (map count (names_where refers_changed ms (map (under (new o t u has)) (places t))))) (members_at o t)
         ∙ regrouped (places t) (λ p i. i)
-        ∙ ap (λ (ms : List Member). total (λ k. length (filter (refers_to k) ms) * count (name k)) ks) (sym (members-at o t))
+        ∙ ap (λ (ms : List Member). total (λ k. length (filter (refers_to k) ms) * count (name k)) ks) (sym (members_at o t))
 
   -- ---- a choice
 
@@ -254,16 +254,16 @@ module _ (o : Options) (t u : Parts) (has : HasNewNames o t u) where
     grows : (m n : ℕ) → m ≤ n → length (candidate o.readable m) ≤ length (candidate o.readable n)
     grows m n h = subst (λ (x : Text). length x ≤ length (candidate o.readable n)) (sym (candidate_short m)) (subst (λ (x : Text). length (short m) ≤ length x) (sym (candidate_short n)) (lengths_never_fall m n h))
 
-    free-rises : PairsOf (λ x y. length x ≤ length y) free
+    free_rises : PairsOf (λ x y. length x ≤ length y) free
     unfolding all_open
-    free-rises = lengths_rise (candidate o.readable) (candidate_one o.readable) grows (is_taken o (members o t)) fuel (number_of_slots (slots_of o t)) 0
+    free_rises = lengths_rise (candidate o.readable) (candidate_one o.readable) grows (is_taken o (members o t)) fuel (number_of_slots (slots_of o t)) 0
 
     -- a free name that is shorter than one of these is one of these
     shorter_free : (x y : Text) → is_free o (members o t) x ≡ true → In y free → length x < length y → In x free
     unfolding all_open
     shorter_free x y f i l =
         let two : (is_spelled x ≡ true) × (not (is_taken o (members o t) x) ≡ true) = and_parts _ _ f in
-        let n : (n : ℕ) × (x ≡ short n) = spelled-short x two.0 in
+        let n : (n : ℕ) × (x ≡ short n) = spelled_short x two.0 in
         let e : x ≡ candidate o.readable n.0 = n.1 ∙ sym (candidate_short n.0) in
         let b : Numbered_below (candidate o.readable) (candidate_one o.readable) (is_taken o (members o t)) y 0 _ = found_below (candidate o.readable) (candidate_one o.readable) (is_taken o (members o t)) fuel (number_of_slots (slots_of o t)) 0 y i in
         subst (λ (z : Text). In z free) (sym e)
@@ -302,7 +302,7 @@ module _ (o : Options) (t u : Parts) (has : HasNewNames o t u) where
 
         no : heavy k < heavy l → ⊥
         no a =
-            let b : given l ≤ given k = heavier-shorter free (map (weight (members o t) (slots_of o t)) (count_from (number_of_slots (slots_of o t)) 0)) (free-different o (members o t) slotted) (free-length o (members o t) slotted ∙ sym long) free-rises l k
+            let b : given l ≤ given k = heavier_shorter free (map (weight (members o t) (slots_of o t)) (count_from (number_of_slots (slots_of o t)) 0)) (free_different o (members o t) slotted) (free_names_length o (members o t) slotted ∙ sym long) free_rises l k
             (subst (λ (m : ℕ). l < m) (sym long) (below l j)) (subst (λ (m : ℕ). k < m) (sym long) (below k i))
             (subst (λ (m : ℕ). m < get_or (map (weight (members o t) (slots_of o t)) (count_from (number_of_slots (slots_of o t)) 0)) l 0) (sym (weighs k (below k i))) (subst (λ (m : ℕ). heavy k < m) (sym (weighs l (below l j))) a)) in
             over (given k) (given l) h b
@@ -327,7 +327,7 @@ module _ (o : Options) (t u : Parts) (has : HasNewNames o t u) where
         counts (length (filter (λ k. is_long s (given k)) ks)) (length (filter (λ x. is_long s (length x)) free)) (length (filter (λ x. not (is_long s (length x))) free)) (length free)
         (length (filter (λ k. is_long s (chosen k)) ks)) (length (filter (λ k. not (is_long s (chosen k))) ks)) (length ks)
         long_given short_chosen (length-filter_both (λ x. is_long s (length x)) (λ x. not (is_long s (length x))) (λ x. refl) free) (length-filter_both (λ k. is_long s (chosen k)) (λ k. not (is_long s (chosen k))) (λ k. refl) ks)
-        (free-length o (members o t) slotted ∙ sym (count_length slotted 0))
+        (free_names_length o (members o t) slotted ∙ sym (count_length slotted 0))
       where
         counts : (gl fl fs f cl cs k : ℕ) → gl ≤ fl → cs ≤ fs → fl + fs ≡ f → cl + cs ≡ k → f ≡ k → gl ≤ cl
         counts gl fl fs f cl cs k a b c d e = omega (arith, a, b, c, d, e)
@@ -374,7 +374,7 @@ module _ (o : Options) (t u : Parts) (has : HasNewNames o t u) where
     shortest w e =
         let a : cost o t u ≡ total (λ k. heavy k * length (name k)) ks = in_sum length in
         let c : names_where refers_changed (members o t) (places w) ≡ map g (names_where refers_changed (members o t) (places u)) = chosen_there changes refers_changed g (λ m h. (and_parts _ _ h).1) (members o t) (places u) (places w) e in
-        let b : cost o t w ≡ total (λ k. heavy k * length (g (name k))) ks = ap (λ xs. sum (map length xs)) c ∙ ap sum (map-map-length g (names_where refers_changed (members o t) (places u))) ∙ in_sum (λ x. length (g x)) in
+        let b : cost o t w ≡ total (λ k. heavy k * length (g (name k))) ks = ap (λ xs. sum (map length xs)) c ∙ ap sum (map_map_length g (names_where refers_changed (members o t) (places u))) ∙ in_sum (λ x. length (g x)) in
         subst (λ (n : ℕ). n ≤ cost o t w) (sym a) (subst (λ (n : ℕ). total (λ k. heavy k * length (name k)) ks ≤ n) (sym b)
         (no_dearer heavy given chosen ks heavier_first no_fewer_long))
 

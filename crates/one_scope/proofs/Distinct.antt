@@ -16,8 +16,8 @@ use Rattle.scope_rules.specs.PrivateNames.{distinct, distinct_after, is_among}
 -- ---- which names are among them
 
 -- equal names pass the same tests
-alike : (test : Text → Bool) (x y : Text) → bytes_eq x y ≡ true → test x ≡ test y
-alike test x y e = ap test (same_is x y e)
+passes_alike : (test : Text → Bool) (x y : Text) → bytes_eq x y ≡ true → test x ≡ test y
+passes_alike test x y e = ap test (same_is x y e)
 
 pub among_filter : (test : Text → Bool) (xs : List Text) (x : Text) → test x ≡ true → is_among (filter test xs) x ≡ is_among xs x
 unfolding all_open
@@ -26,7 +26,7 @@ among_filter test (y ∷ ys) x t = go (test y) (bytes_eq x y) refl refl (among_f
   where
     go : (b s : Bool) → test y ≡ b → bytes_eq x y ≡ s → is_among (filter test ys) x ≡ is_among ys x → is_among (cond b (y ∷ filter test ys) (filter test ys)) x ≡ (bytes_eq x y || is_among ys x)
     go true s p q ih = ap (λ b. bytes_eq x y || b) ih
-    go false true p q ih = absurd (both_ways _ p (sym (alike test x y q) ∙ t))
+    go false true p q ih = absurd (both_ways _ p (sym (passes_alike test x y q) ∙ t))
     go false false p q ih = rw q ih
 
 among_after : (before xs : List Text) (x : Text) → is_among before x ≡ false → is_among (distinct_after before xs) x ≡ is_among xs x
@@ -36,7 +36,7 @@ among_after before (y ∷ ys) x n = go (is_among before y) (bytes_eq x y) refl r
   where
     go : (b s : Bool) → is_among before y ≡ b → bytes_eq x y ≡ s → is_among (distinct_after before ys) x ≡ is_among ys x → ((bytes_eq x y || is_among before x) ≡ false → is_among (distinct_after (y ∷ before) ys) x ≡ is_among ys x)
         → is_among (elim b as (λ c. List Text) [ true ↦ distinct_after before ys | false ↦ y ∷ distinct_after (y ∷ before) ys ]) x ≡ (bytes_eq x y || is_among ys x)
-    go true true p q ih jh = absurd (both_ways _ n (alike (is_among before) x y q ∙ p))
+    go true true p q ih jh = absurd (both_ways _ n (passes_alike (is_among before) x y q ∙ p))
     go true false p q ih jh = rw q ih
     go false true p q ih jh = rw q refl
     go false false p q ih jh = rw q (jh (rw q n))
@@ -67,7 +67,7 @@ distinct_after_more before (y ∷ ys) x = go (is_among before y) (bytes_eq x y) 
         → distinct_after (y ∷ before) (ys ++ x ∷ []) ≡ distinct_after (y ∷ before) ys ++ (if (bytes_eq x y || is_among before x) || is_among ys x then [] else x ∷ [])
         → elim b as (λ c. List Text) [ true ↦ distinct_after before (ys ++ x ∷ []) | false ↦ y ∷ distinct_after (y ∷ before) (ys ++ x ∷ []) ]
         ≡ elim b as (λ c. List Text) [ true ↦ distinct_after before ys | false ↦ y ∷ distinct_after (y ∷ before) ys ] ++ (if is_among before x || (bytes_eq x y || is_among ys x) then [] else x ∷ [])
-    go true true p q ih jh = let i : is_among before x ≡ true = alike (is_among before) x y q ∙ p in ih ∙ ap (λ (b : Bool). distinct_after before ys ++ (if b then [] else x ∷ [])) (rw i refl)
+    go true true p q ih jh = let i : is_among before x ≡ true = passes_alike (is_among before) x y q ∙ p in ih ∙ ap (λ (b : Bool). distinct_after before ys ++ (if b then [] else x ∷ [])) (rw i refl)
     go true false p q ih jh = rw q ih
     go false s p q ih jh = ap (λ zs. y ∷ zs) (jh ∙ ap (λ (b : Bool). distinct_after (y ∷ before) ys ++ (if b then [] else x ∷ [])) (or_over (bytes_eq x y) (is_among before x) (is_among ys x)))
 

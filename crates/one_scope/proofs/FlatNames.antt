@@ -5,7 +5,7 @@ use Rattle.std.proofs.Common.{refl, sym, ap, ◌∙◌, subst, arith, inl, inr}
 use Rattle.std.proofs.lemmas.Bool.{both_ways, eq-eqb, eqb-true, ne_eqb}
 use Rattle.std.proofs.lemmas.List.{append_assoc, length-append, length-map}
 use Rattle.std.proofs.lemmas.Simd.{map-map}
-use Rattle.name_rules.proofs.Untaken.{first_untaken_same}
+use Rattle.name_rules.proofs.FirstUntaken.{first_untaken_same}
 use Rattle.scope_rules.proofs.PlacesRise.{above, one_place}
 use Rattle.list_laws.proofs.Tests.{tested}
 use Rattle.list_laws.proofs.Mapped.{map_same}
@@ -76,10 +76,10 @@ positioned a (z ∷ xs) y ys x apart = go (same_name z.name x) refl (positioned 
     go true e ih = ne_eqb a (suc (length xs) + a) (λ q. omega (arith, q)) ∙ sym (other e)
     go false e ih = ap (is_node (position_from (λ w. same_name w x) (a + 1) (map (λ p. p.name) (xs ++ y ∷ ys)))) (let e' : suc (length xs) + a ≡ length xs + (a + 1) = omega arith in e') ∙ ih
 
-rise-apart : (n : ℕ) (ps : List Place) → RiseFrom n (map node ps) → PairsOf (λ p q. p ≡ q → ⊥) ps
+rise_apart : (n : ℕ) (ps : List Place) → RiseFrom n (map node ps) → PairsOf (λ p q. p ≡ q → ⊥) ps
 unfolding all_open
-rise-apart n [] r = tt
-rise-apart n (p ∷ ps) r = (each ps (λ q i. above (suc (node p)) ps q r.1 i), rise-apart (suc (node p)) ps r.1)
+rise_apart n [] r = tt
+rise_apart n (p ∷ ps) r = (each ps (λ q i. above (suc (node p)) ps q r.1 i), rise_apart (suc (node p)) ps r.1)
   where
     each : (qs : List Place) → ((q : Place) → In q qs → suc (node p) ≤ node q) → AllOf (λ q. p ≡ q → ⊥) qs
     each [] f = tt
@@ -103,9 +103,9 @@ module _ (o : Options) (ps : List Place) (flat : (p : Place) → In p ps → IsF
   abbrev es : List Entry
   es = map entry_of ps
 
-  owners-apart : PairsOf (λ x y. x ≡ y → ⊥) owners
+  slot_owners_differ : PairsOf (λ x y. x ≡ y → ⊥) owners
   unfolding all_open leaders
-  owners-apart = different_map (λ (p : Place). p.name) (leaders o ps) (PairsOf_filter (λ p q. p ≡ q → ⊥) (leads_at o ps) ps (rise-apart 0 ps order))
+  slot_owners_differ = different_map (λ (p : Place). p.name) (leaders o ps) (PairsOf_filter (λ p q. p ≡ q → ⊥) (leads_at o ps) ps (rise_apart 0 ps order))
       (λ l m i j e. one_place 0 ps l m order (from_filter (leads_at o ps) ps l i).0 (from_filter (leads_at o ps) ps m j).0
       (same_node (group_named o ps l.name) (node l) (node m) (leader_named o ps flat order l i l.name ∙ (name_itself l.name)) (leader_named o ps flat order m j l.name ∙ ap (λ x. same_name x l.name) (sym e) ∙ name_itself l.name)))
     where
@@ -161,7 +161,7 @@ module _ (o : Options) (ps : List Place) (flat : (p : Place) → In p ps → IsF
           ap (λ q. is_node q (length done)) (slot_named x)
           ∙ ap (λ k. is_node (flat_slot owners x) k) (let e : length done ≡ length done + 0 = omega arith in e)
           ∙ ap (λ (ls : List Place). is_node (flat_slot (map (λ p. p.name) ls) x) (length done + 0)) (sym all)
-          ∙ positioned 0 done l rest x (subst (λ (ls : List Place). PairsOf (λ v w. v ≡ w → ⊥) (map (λ p. p.name) ls)) (sym all) owners-apart)
+          ∙ positioned 0 done l rest x (subst (λ (ls : List Place). PairsOf (λ v w. v ≡ w → ⊥) (map (λ p. p.name) ls)) (sym all) slot_owners_differ)
 
   weights_same : (done rest : List Place) → done ++ rest ≡ leaders o ps → map (weight ms bs) (count_from (length rest) (length done)) ≡ map (flat_weight es) (map (λ p. p.name) rest)
   unfolding all_open

@@ -18,7 +18,7 @@ use Rattle.name_rules.specs.Groups.{Group, Member, greatest, group_led_by, group
 use Rattle.name_rules.specs.Options.{Options}
 use Rattle.name_rules.specs.Slots.{Slotted, least_missing, number_of_slots, slot_after, slot_of, slots, slots_after, slots_live}
 use Rattle.tree_nodes.specs.Tree.{Text}
-use Rattle.tree_places.proofs.Outwards.{same-refl}
+use Rattle.tree_places.proofs.Outwards.{same_scope_refl}
 use Rattle.tree_places.specs.Places.{Place}
 use Rattle.tree_places.specs.Scopes.{same_scope}
 use Rattle.list_laws.proofs.Members.{In, from_filter, from_map}
@@ -45,7 +45,7 @@ module _ (o : Options) (ps : List Place) (flat : (p : Place) → In p ps → IsF
       ∙ ap (λ ms. map group_led_by (filter (λ m. same_scope (home m.place.site) (0 ∷ [])) ms)) (filter_map_before (member o ps) leads ps)
       ∙ ap (map group_led_by) (filter_all (λ m. same_scope (home m.place.site) (0 ∷ [])) (map (member o ps) (leaders o ps))
       (λ m i. let w : (p : Place) × In p (leaders o ps) × (member o ps p ≡ m) = from_map (member o ps) (leaders o ps) m i in
-      subst (λ (x : Member). same_scope (home x.place.site) (0 ∷ []) ≡ true) w.2 (ap (λ s. same_scope s (0 ∷ [])) (leaders_home w.0 w.1) ∙ same-refl (0 ∷ []))))
+      subst (λ (x : Member). same_scope (home x.place.site) (0 ∷ []) ≡ true) w.2 (ap (λ s. same_scope s (0 ∷ [])) (leaders_home w.0 w.1) ∙ same_scope_refl (0 ∷ []))))
       ∙ map-map group_led_by (member o ps) (leaders o ps)
       ∙ map_same (λ p. group_led_by (member o ps p)) root_group (leaders o ps) (λ p i. ap (λ s. record { leader = node p; home = s }) (leaders_home p i))
 
@@ -96,19 +96,19 @@ next_slot ms done p =
     ∙ missing (suc (greatest (count_from (length done) 0))) (length done) 0 (omega arith)
     (let h : length done + 0 ≤ max 0 (suc (greatest (count_from (length done) 0))) = greatest_counted (length done) 0 in omega (arith, h))
 
-numbered-push : (k : ℕ) (done : List Place) (p : Place) → numbered k done ++ record { group = root_group p; slot = length done + k } ∷ [] ≡ numbered k (done ++ p ∷ [])
+numbered_push : (k : ℕ) (done : List Place) (p : Place) → numbered k done ++ record { group = root_group p; slot = length done + k } ∷ [] ≡ numbered k (done ++ p ∷ [])
 unfolding all_open numbered
-numbered-push k [] p = ap (λ n. record { group = root_group p; slot = n } ∷ []) (let e : 0 + k ≡ k = omega arith in e)
-numbered-push k (q ∷ done) p =
+numbered_push k [] p = ap (λ n. record { group = root_group p; slot = n } ∷ []) (let e : 0 + k ≡ k = omega arith in e)
+numbered_push k (q ∷ done) p =
     ap (λ ds. record { group = root_group q; slot = k } ∷ ds)
-    (ap (λ n. numbered (suc k) done ++ record { group = root_group p; slot = n } ∷ []) (let e : suc (length done) + k ≡ length done + suc k = omega arith in e) ∙ numbered-push (suc k) done p)
+    (ap (λ n. numbered (suc k) done ++ record { group = root_group p; slot = n } ∷ []) (let e : suc (length done) + k ≡ length done + suc k = omega arith in e) ∙ numbered_push (suc k) done p)
 
 slots_numbered : (ms : List Member) (done rest : List Place) → slots_after ms (numbered 0 done) (map root_group rest) ≡ numbered 0 (done ++ rest)
 unfolding all_open
 slots_numbered ms done [] = ap (numbered 0) (sym (append-nil done))
 slots_numbered ms done (p ∷ rest) =
     ap (λ n. slots_after ms (numbered 0 done ++ record { group = root_group p; slot = n } ∷ []) (map root_group rest)) (next_slot ms done p ∙ (let e : length done ≡ length done + 0 = omega arith in e))
-    ∙ ap (λ ds. slots_after ms ds (map root_group rest)) (numbered-push 0 done p)
+    ∙ ap (λ ds. slots_after ms ds (map root_group rest)) (numbered_push 0 done p)
     ∙ slots_numbered ms (done ++ p ∷ []) rest
     ∙ ap (numbered 0) (append_assoc done (p ∷ []) rest)
 

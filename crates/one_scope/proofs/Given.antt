@@ -13,7 +13,7 @@ use Rattle.one_scope.specs.Open.{all_open}
 use Rattle.one_scope.specs.Steps.{AreWithin}
 use Rattle.tree_places.specs.Chosen.{chosen, given_name, or_own}
 use Rattle.oxc_mangler.proofs.NextNames.{how_many, is_listed}
-use Rattle.name_rules.proofs.Untaken.{candidate_one, enough, first_untaken_same}
+use Rattle.name_rules.proofs.FirstUntaken.{candidate_one, enough_untaken, first_untaken_same}
 use Rattle.oxc_mangler.specs.FirstFree.{AreFirstFree}
 use Rattle.name_rules.specs.FreeNames.{first_untaken}
 use Rattle.name_rules.specs.GivenNames.{count_from, slot_names}
@@ -46,7 +46,7 @@ free_length guard names readable n first =
     let b : length (name_eval ∷ name_arguments ∷ guard) ≡ suc (suc (length guard)) = refl in
     let c : length reserved_keywords ≡ 46 = how_many guard in
     ap length (first (n + 48 + length guard) (omega arith))
-    ∙ enough (candidate readable) (candidate_one readable) (is_refused guard) listed (λ x h. is_listed guard x h) (n + 48 + length guard) n 0 (omega (arith, a, b, c))
+    ∙ enough_untaken (candidate readable) (candidate_one readable) (is_refused guard) listed (λ x h. is_listed guard x h) (n + 48 + length guard) n 0 (omega (arith, a, b, c))
 
 -- ---- the names of the slots
 

@@ -5,6 +5,7 @@ use Rattle.std.proofs.Common.{refl, sym, ap, ◌∙◌, arith, take_all}
 use Rattle.std.proofs.lemmas.List.{length-map}
 use Rattle.std.proofs.lemmas.List.Folds.{list_any-append}
 use Rattle.std.proofs.Math.Bool.{or-false}
+use Rattle.list_laws.proofs.Tests.{told}
 use Rattle.one_scope.proofs.Distinct.{slot_some}
 use Rattle.one_scope.proofs.Texts.{same_sym, seen_more}
 use Rattle.one_scope.specs.Entries.{Entry}

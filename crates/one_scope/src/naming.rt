@@ -10,7 +10,7 @@ ghost use Rattle.tree_places.specs.Chosen.{chosen};
 
 use crate::entry::Entry;
 use crate::options::MangleOptions;
-use crate::slots::slots_of;
+use crate::slots::slots_of_places;
 use oxc_mangler::{Guard, free_names, slot_names};
 use std::alloc::{AllocError, Global};
 
@@ -34,7 +34,7 @@ pub fn new_names(
     ensures within { IfOk result (λ n. AreWithin n.choices.items (length n.names.items)) }
     ensures chosen { IfOk result (λ n. flat_new_names options.now (map entry_view entries.now) ≡ chosen (map string_bytes n.names.items) n.choices.items (map (λ e. e.name.now) entries.now)) }
 {
-    let slots = slots_of(alloc, options, entries)?;
+    let slots = slots_of_places(alloc, options, entries)?;
     let guard = taken_names(options, entries, slots.places.as_slice())?;
     let weights = slots.weights.as_slice();
     let free = free_names(alloc, &guard, options.readable(), weights.len())?;

@@ -6,7 +6,7 @@ use Rattle.std.proofs.lemmas.Fmt.{PrependsLastDigit, decimal_from_prepends, leng
 use Rattle.std.proofs.lemmas.List.{append_assoc, append-nil, length-append}
 use Rattle.syntax_lex.specs.Keyword.{reserved_keywords}
 use Rattle.oxc_mangler.proofs.NextNames.{how_many, is_listed}
-use Rattle.name_rules.proofs.Untaken.{candidate_one, enough, first_untaken_same}
+use Rattle.name_rules.proofs.FirstUntaken.{candidate_one, enough_untaken, first_untaken_same}
 use Rattle.oxc_mangler.specs.FirstFree.{AreFirstFree, AreFreeWhereTaken}
 use Rattle.name_rules.specs.FreeNames.{first_untaken, is_taken}
 use Rattle.oxc_mangler.specs.Guard.{is_refused}
@@ -77,7 +77,7 @@ module _ (inserted : List Text) (readable : Bool) (n : ℕ) where
       go false e =
           let far : n + 48 + length inserted ≤ number = grind (arith, e) in
           let a : length (first_untaken (candidate readable) (is_refused inserted) number n 0) ≡ n =
-          enough (candidate readable) (candidate_one readable) (is_refused inserted) listed (is_listed inserted) number n 0 (omega (arith, far, as_many)) in
+          enough_untaken (candidate readable) (candidate_one readable) (is_refused inserted) listed (is_listed inserted) number n 0 (omega (arith, far, as_many)) in
           let b : first_untaken (candidate readable) (is_refused inserted) number n 0 ≡ names ++ first_untaken (candidate readable) (is_refused inserted) 0 (n - length names) number =
           found.so_far 0 number (n - length names) (omega arith) (omega (arith, h)) in
           let c : length (names ++ first_untaken (candidate readable) (is_refused inserted) 0 (n - length names) number) ≡ length names = with_no_fuel names (n - length names) number in
@@ -122,10 +122,10 @@ module _ (inserted : List Text) (readable : Bool) (n : ℕ) where
       go false t d = given names after number found h t (d ∙ ap (λ (b : Bool). names ++ (if b then [] else candidate readable number ∷ [])) t)
 
   pub all_found : (names : List Text) (number : ℕ) → Found names number → n ≤ length names → AreFirstFree inserted readable n names
-  all_found names number found h fuel enough =
+  all_found names number found h fuel enough_untaken =
       let a : number ≤ n + 48 + length inserted = found.bounded in
       let b : length names ≤ n = found.most in
-      sym (found.so_far (fuel - number) fuel 0 (omega (arith, a, enough)) (omega (arith, h, b))
+      sym (found.so_far (fuel - number) fuel 0 (omega (arith, a, enough_untaken)) (omega (arith, h, b))
       ∙ ap (λ (xs : List Text). names ++ xs) (none_wanted (candidate readable) (is_refused inserted) (fuel - number) number)
       ∙ append-nil names)
 

@@ -8,7 +8,7 @@ use Rattle.list_laws.proofs.PairsOf.{PairsOf}
 use Rattle.scope_rules.proofs.SameNames.{same_name_tells, among_in}
 use Rattle.syntax_lex.specs.Keyword.{is_reserved_keyword, reserved_keywords}
 use Rattle.list_laws.proofs.Counting.{no_more}
-use Rattle.name_rules.proofs.Numbered.{short_is_one_to_one}
+use Rattle.name_rules.proofs.ShortNumbers.{short_is_one_to_one}
 use Rattle.oxc_mangler.specs.Guard.{is_never_given, is_refused}
 use Rattle.name_rules.specs.Kept.{name_arguments}
 use Rattle.name_rules.specs.Open.{all_open}
@@ -31,15 +31,15 @@ unfolding names_from
 as_many zero k = refl
 as_many (suc count) k = ap suc (as_many count (suc k))
 
-other : (count k j : ℕ) → j < k → AllOf (λ y. short j ≡ y → ⊥) (names_from count k)
+short_differs_from_later : (count k j : ℕ) → j < k → AllOf (λ y. short j ≡ y → ⊥) (names_from count k)
 unfolding names_from
-other zero k j h = tt
-other (suc count) k j h = ((λ e. let q : j ≡ k = short_is_one_to_one j k e in omega (arith, h, q)), other count (suc k) j (omega (arith, h)))
+short_differs_from_later zero k j h = tt
+short_differs_from_later (suc count) k j h = ((λ e. let q : j ≡ k = short_is_one_to_one j k e in omega (arith, h, q)), short_differs_from_later count (suc k) j (omega (arith, h)))
 
 all_different : (count k : ℕ) → PairsOf (λ x y. x ≡ y → ⊥) (names_from count k)
 unfolding names_from
 all_different zero k = tt
-all_different (suc count) k = (other count (suc k) k (omega arith), all_different count (suc k))
+all_different (suc count) k = (short_differs_from_later count (suc k) k (omega arith), all_different count (suc k))
 
 each_passes : (test : Text → Bool) (count k : ℕ) → ((j : ℕ) → k ≤ j → j < k + count → test (short j) ≡ true) → (x : Text) → In x (names_from count k) → test x ≡ true
 unfolding names_from
@@ -78,8 +78,8 @@ module _ (inserted : List Text) where
   unfolding all_open
   how_many = refl
 
-  few : (n count : ℕ) → ((j : ℕ) → n ≤ j → j < n + count → is_refused inserted (short j) ≡ true) → count ≤ 48 + length inserted
-  few n count h =
+  refused_are_few : (n count : ℕ) → ((j : ℕ) → n ≤ j → j < n + count → is_refused inserted (short j) ≡ true) → count ≤ 48 + length inserted
+  refused_are_few n count h =
       let a : length (names_from count n) ≤ length (reserved_keywords ++ (name_eval ∷ name_arguments ∷ inserted)) =
       no_more same_name same_name_tells (names_from count n) (reserved_keywords ++ (name_eval ∷ name_arguments ∷ inserted)) (all_different count n) (λ x i. is_listed x (each_passes (is_refused inserted) count n h x i)) in
       let b : length (reserved_keywords ++ (name_eval ∷ name_arguments ∷ inserted)) ≡ length reserved_keywords + length (name_eval ∷ name_arguments ∷ inserted) = length-append reserved_keywords (name_eval ∷ name_arguments ∷ inserted) in
@@ -106,5 +106,5 @@ module _ (inserted : List Text) where
 
   pub not_far : (n number : ℕ) → n ≤ number → AreRefused n number → is_refused inserted (short number) ≡ true → number < n + 48 + length inserted
   not_far n number a h r =
-      let c : suc number - n ≤ 48 + length inserted = few n (suc number - n) (λ j p q. one_more n number h r j p (omega (arith, a, q))) in
+      let c : suc number - n ≤ 48 + length inserted = refused_are_few n (suc number - n) (λ j p q. one_more n number h r j p (omega (arith, a, q))) in
       omega (arith, a, c)

@@ -3,10 +3,11 @@ pub mod PlacesRise
 pub mod SameNames
 
 -- bindings and faults under new names
-pub mod Stay
-pub mod Faultless
+pub mod BindingsStay
+pub mod NoNewFaults
 
 -- var scopes and function-names, and names that are in use together
+pub mod GivenRoles
 pub mod VarScopes
 pub mod FunctionNames
-pub mod Separate
+pub mod NamesSeparate

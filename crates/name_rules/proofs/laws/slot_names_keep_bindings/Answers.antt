@@ -1,10 +1,10 @@
 use Rattle.scope_rules.proofs.SameNames.{same_name_tells}
 use Rattle.scope_rules.proofs.SameNames.{same_name_tells}
-use Rattle.name_rules.proofs.Given as given
+use Rattle.name_rules.proofs.SlotNamesKeepApart as given
 use Rattle.name_rules.specs.SlotNames.{named_by_slot}
 use Rattle.name_rules.proofs.laws.slot_names_keep_bindings.Goals as goal
 use Rattle.tree_places.specs.Places.{places}
-use Rattle.scope_rules.proofs.Stay.{bindings_stay}
+use Rattle.scope_rules.proofs.BindingsStay.{bindings_stay}
 use Rattle.scope_rules.specs.Bindings.{same_name}
 
 pub returns-clause-apart : goal.returns-clause-apart

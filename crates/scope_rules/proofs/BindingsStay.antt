@@ -10,7 +10,7 @@ use Rattle.list_laws.proofs.AnyOf.{any_from}
 use Rattle.list_laws.proofs.FirstOf.{First, find_first, find_map, find_none, find_same_first}
 use Rattle.tree_nodes.specs.declared.table.Role.{Role}
 use Rattle.tree_nodes.specs.declared.table.Role.TheVariants.{Called, Declares, MemberKey, Plain, Read, ReadWrite, Write}
-use Rattle.tree_places.proofs.Outwards.{inside-parent, inside-refl, same-eq, same-refl}
+use Rattle.tree_places.proofs.Outwards.{inside_parent, inside_refl, same_scope_eq, same_scope_refl}
 use Rattle.tree_places.specs.Laws.{RiseFrom}
 use Rattle.tree_places.specs.Places.{Named, Site}
 use Rattle.tree_places.specs.Scopes.{Scope, first_outwards, is_inside, same_scope}
@@ -84,11 +84,11 @@ module _ {N : Type 0} (same : N → N → Bool) (tells : TellsSame same) (ps : L
   unfolding all_open
   at_from x h c i e =
       let two : (same_scope (home c.site) h ≡ true) × (same c.name x ≡ true) = and_parts _ _ e in
-      record { among = i; homed = same-eq (home c.site) h two.0; named = (tells c.name x).0 two.1 }
+      record { among = i; homed = same_scope_eq (home c.site) h two.0; named = (tells c.name x).0 two.1 }
 
   at_to : (x : N) (h : Scope) (c : Named N) → home c.site ≡ h → c.name ≡ x → at_home same x h c ≡ true
   unfolding all_open
-  at_to x h c e n = and_from _ _ (subst (λ (s : Scope). same_scope (home c.site) s ≡ true) e (same-refl (home c.site))) ((tells c.name x).1 n)
+  at_to x h c e n = and_from _ _ (subst (λ (s : Scope). same_scope (home c.site) s ≡ true) e (same_scope_refl (home c.site))) ((tells c.name x).1 n)
 
   pub plain_at : (x : N) (h : Scope) (c : Named N) → In c ps → declares_at same x h c ≡ true → (declares_plainly c.site ≡ true) × At x h c
   unfolding all_open
@@ -179,7 +179,7 @@ module _ {N : Type 0} (same : N → N → Bool) (tells : TellsSame same) (ps : L
         r.1 ∙ same_number,
         r.2,
         record { among = r.3.among; homed = refl; named = r.3.named },
-        subst (λ (h : Scope). is_inside (k ∷ ks) h ≡ true) (sym r.3.homed) (inside-refl (k ∷ ks)),
+        subst (λ (h : Scope). is_inside (k ∷ ks) h ≡ true) (sym r.3.homed) (inside_refl (k ∷ ks)),
       ))
     where
       outer : N → ℕ → Scope → Option ℕ → Option ℕ
@@ -204,7 +204,7 @@ module _ {N : Type 0} (same : N → N → Bool) (tells : TellsSame same) (ps : L
   -- what a scope outwards binds, where nothing is found
   nothing_outwards : (x : N) (h : Scope) → (h ≡ [] → ⊥) → (s : Scope) → first_outwards (binder same ps x) s ≡ None → is_inside s h ≡ true → binder same ps x h ≡ None
   unfolding all_open
-  nothing_outwards x h root [] e inside = absurd (root (sym (same-eq [] h inside)))
+  nothing_outwards x h root [] e inside = absurd (root (sym (same_scope_eq [] h inside)))
   nothing_outwards x h root (k ∷ ks) e inside = told (binder same ps x (k ∷ ks))
       (λ none. go none (or_cases _ _ inside) (nothing_outwards x h root ks (sym (ap further none) ∙ e)))
       (λ m f. absurd (none_some m (sym e ∙ ap further f)))
@@ -213,7 +213,7 @@ module _ {N : Type 0} (same : N → N → Bool) (tells : TellsSame same) (ps : L
       further o = elim o [ Some j ↦ Some j | None ↦ first_outwards (binder same ps x) ks ]
 
       go : binder same ps x (k ∷ ks) ≡ None → (same_scope (k ∷ ks) h ≡ true) ⊎ (is_inside ks h ≡ true) → (is_inside ks h ≡ true → binder same ps x h ≡ None) → binder same ps x h ≡ None
-      go none (inl q) ih = subst (λ (r : Scope). binder same ps x r ≡ None) (same-eq (k ∷ ks) h q) none
+      go none (inl q) ih = subst (λ (r : Scope). binder same ps x r ≡ None) (same_scope_eq (k ∷ ks) h q) none
       go none (inr q) ih = ih q
 
   pub binds : (b : Named N) → In b ps → declares b.site ≡ true → binder same ps b.name (home b.site) ≡ None → ⊥
@@ -258,7 +258,7 @@ module _ {A B : Type 0} (same : A → A → Bool) (same' : B → B → Bool) (te
       (λ q i e.
       let two : (declares_plainly q.site ≡ true) × (at_home same' y h (under new q) ≡ true) = and_parts _ _ e in
       let both : (same_scope (home q.site) h ≡ true) × (same' (new q) y ≡ true) = and_parts _ _ two.1 in
-      let at : home q.site ≡ h = same-eq (home q.site) h both.0 in
+      let at : home q.site ≡ h = same_scope_eq (home q.site) h both.0 in
       plain_to same tells ps x h q two.0 at
       (was_named b q ib i (plainly q.site two.0).0 (subst (λ (s : Scope). is_live_in same ps b s ≡ true) (sym at) live) ((tells' (new q) y).0 both.1 ∙ m) ∙ n))
       (λ c f.
@@ -266,7 +266,7 @@ module _ {A B : Type 0} (same : A → A → Bool) (same' : B → B → Bool) (te
       let a : (declares_plainly c.site ≡ true) × At same tells ps x h c = plain_at same tells ps x h c g.among g.passes in
       let own : binding same ps c ≡ Some (node c) = (first_own same tells ps x h c f).0.own in
       let e : new c ≡ new b = named_so c b g.among (in_from_Contains ps b ib.among) (own ∙ ap Some (first c f)) in
-      and_from _ _ a.0 (and_from _ _ (subst (λ (s : Scope). same_scope (home c.site) s ≡ true) a.1.homed (same-refl (home c.site))) ((tells' (new c) y).1 (e ∙ sym m))))
+      and_from _ _ a.0 (and_from _ _ (subst (λ (s : Scope). same_scope (home c.site) s ≡ true) a.1.homed (same_scope_refl (home c.site))) ((tells' (new c) y).1 (e ∙ sym m))))
 
   find_function : (b : Named A) (x : A) (y : B) (h : Scope) → IsBindingOf same ps b → b.name ≡ x → y ≡ new b → is_live_in same ps b h ≡ true
       → ((c : Named A) → find (names_function_at same x h) ps ≡ Some c → node c ≡ node b)
@@ -276,14 +276,14 @@ module _ {A B : Type 0} (same : A → A → Bool) (same' : B → B → Bool) (te
       (λ q i e.
       let two : (names_function q.site ≡ true) × (at_home same' y h (under new q) ≡ true) = and_parts _ _ e in
       let both : (same_scope (home q.site) h ≡ true) × (same' (new q) y ≡ true) = and_parts _ _ two.1 in
-      let at : home q.site ≡ h = same-eq (home q.site) h both.0 in
+      let at : home q.site ≡ h = same_scope_eq (home q.site) h both.0 in
       function_to same tells ps x h q two.0 at
       (was_named b q ib i (names_declares q.site two.0) (subst (λ (s : Scope). is_live_in same ps b s ≡ true) (sym at) live) ((tells' (new q) y).0 both.1 ∙ m) ∙ n))
       (λ c f.
       let g : First (names_function_at same x h) ps c = find_first (names_function_at same x h) ps c f in
       let a : (names_function c.site ≡ true) × At same tells ps x h c = function_at same tells ps x h c g.among g.passes in
       let e : new c ≡ new b = named_so c b g.among (in_from_Contains ps b ib.among) (binding_function same tells ps c a.0 ∙ ap Some (first c f)) in
-      and_from _ _ a.0 (and_from _ _ (subst (λ (s : Scope). same_scope (home c.site) s ≡ true) a.1.homed (same-refl (home c.site))) ((tells' (new c) y).1 (e ∙ sym m))))
+      and_from _ _ a.0 (and_from _ _ (subst (λ (s : Scope). same_scope (home c.site) s ≡ true) a.1.homed (same_scope_refl (home c.site))) ((tells' (new c) y).1 (e ∙ sym m))))
 
   -- a place that is found stands under its new name
   node_under : (o : Option (Named A)) → node_of (elim o as (λ q. Option (Named B)) [ None ↦ None | Some p ↦ Some (under new p) ]) ≡ node_of o
@@ -291,26 +291,26 @@ module _ {A B : Type 0} (same : A → A → Bool) (same' : B → B → Bool) (te
   node_under None = refl
   node_under (Some p) = refl
 
-  node-find : (test : Named B → Bool) → node_of (find test (map (under new) ps)) ≡ node_of (find (λ q. test (under new q)) ps)
+  node_find : (test : Named B → Bool) → node_of (find test (map (under new) ps)) ≡ node_of (find (λ q. test (under new q)) ps)
   unfolding all_open
-  node-find test = ap node_of (find_map (under new) test ps) ∙ node_under (find (λ q. test (under new q)) ps)
+  node_find test = ap node_of (find_map (under new) test ps) ∙ node_under (find (λ q. test (under new q)) ps)
 
-  plain-same : (b : Named A) (x : A) (y : B) (h : Scope) → IsBindingOf same ps b → b.name ≡ x → y ≡ new b → is_live_in same ps b h ≡ true
+  plain_same : (b : Named A) (x : A) (y : B) (h : Scope) → IsBindingOf same ps b → b.name ≡ x → y ≡ new b → is_live_in same ps b h ≡ true
       → ((c : Named A) → find (declares_at same x h) ps ≡ Some c → node c ≡ node b)
       → plain_binder same' (map (under new) ps) y h ≡ plain_binder same ps x h
   unfolding all_open
-  plain-same b x y h ib n m live first = node-find (declares_at same' y h) ∙ ap node_of (find_plain b x y h ib n m live first)
+  plain_same b x y h ib n m live first = node_find (declares_at same' y h) ∙ ap node_of (find_plain b x y h ib n m live first)
 
   -- what a scope where b is live binds: b, or nothing
-  binder-same : (b : Named A) (x : A) (y : B) (h : Scope) → IsBindingOf same ps b → b.name ≡ x → y ≡ new b → is_live_in same ps b h ≡ true
+  binder_same : (b : Named A) (x : A) (y : B) (h : Scope) → IsBindingOf same ps b → b.name ≡ x → y ≡ new b → is_live_in same ps b h ≡ true
       → ((n : ℕ) → binder same ps x h ≡ Some n → n ≡ node b)
       → binder same' (map (under new) ps) y h ≡ binder same ps x h
   unfolding all_open
-  binder-same b x y h ib n m live only =
+  binder_same b x y h ib n m live only =
       ap (λ o. or_else o (node_of (find (names_function_at same' y h) (map (under new) ps))))
-      (plain-same b x y h ib n m live (λ c f. only (node c) (ap (λ o. or_else (node_of o) (node_of (find (names_function_at same x h) ps))) f)))
+      (plain_same b x y h ib n m live (λ c f. only (node c) (ap (λ o. or_else (node_of o) (node_of (find (names_function_at same x h) ps))) f)))
       ∙ told (find (declares_at same x h) ps)
-      (λ none. ap (or_else (plain_binder same ps x h)) (node-find (names_function_at same' y h) ∙ ap node_of (find_function b x y h ib n m live
+      (λ none. ap (or_else (plain_binder same ps x h)) (node_find (names_function_at same' y h) ∙ ap node_of (find_function b x y h ib n m live
       (λ c f. only (node c) (ap (λ o. or_else (node_of o) (node_of (find (names_function_at same x h) ps))) none ∙ ap node_of f)))))
       (λ c f. ap (λ o. or_else (node_of o) (node_of (find (names_function_at same' y h) (map (under new) ps)))) f
       ∙ sym (ap (λ o. or_else (node_of o) (node_of (find (names_function_at same x h) ps))) f))
@@ -333,11 +333,11 @@ module _ {A B : Type 0} (same : A → A → Bool) (same' : B → B → Bool) (te
       (and_from _ _ (ap (λ o. is_node o (node b)) e ∙ eq-eqb (node b) (node b) refl) inside) in
       let live : is_live_in same ps b (h ∷ hs) ≡ true = or_right _ _ (and_from _ _ within reached) in
       let here : binder same' (map (under new) ps) (new p) (h ∷ hs) ≡ binder same ps p.name (h ∷ hs) =
-      binder-same b p.name (new p) (h ∷ hs) ib n m live (λ j g. some_one j (node b) (sym (ap (outer (binder same ps p.name) hs) g) ∙ f)) in
+      binder_same b p.name (new p) (h ∷ hs) ib n m live (λ j g. some_one j (node b) (sym (ap (outer (binder same ps p.name) hs) g) ∙ f)) in
       ap (outer (binder same' (map (under new) ps) (new p)) hs) here
       ∙ told (binder same ps p.name (h ∷ hs))
       (λ none. ap (outer (binder same' (map (under new) ps) (new p)) hs) none
-      ∙ bound_stays p b i ib e n m hs (inside-parent p.site.setting.scope h hs inside) (sym (ap (outer (binder same ps p.name) hs) none) ∙ f)
+      ∙ bound_stays p b i ib e n m hs (inside_parent p.site.setting.scope h hs inside) (sym (ap (outer (binder same ps p.name) hs) none) ∙ f)
       ∙ sym (ap (outer (binder same ps p.name) hs) none))
       (λ j g. ap (outer (binder same' (map (under new) ps) (new p)) hs) g ∙ sym (ap (outer (binder same ps p.name) hs) g))
 
@@ -352,8 +352,8 @@ module _ {A B : Type 0} (same : A → A → Bool) (same' : B → B → Bool) (te
   unbound_here p h i r e inside none =
       told (find (λ q. declares_at same' (new p) h (under new q)) ps)
       (λ no. told (find (λ q. names_function_at same' (new p) h (under new q)) ps)
-      (λ nor. ap (λ o. or_else o (node_of (find (names_function_at same' (new p) h) (map (under new) ps)))) (node-find (declares_at same' (new p) h) ∙ ap node_of no)
-      ∙ node-find (names_function_at same' (new p) h) ∙ ap node_of nor)
+      (λ nor. ap (λ o. or_else o (node_of (find (names_function_at same' (new p) h) (map (under new) ps)))) (node_find (declares_at same' (new p) h) ∙ ap node_of no)
+      ∙ node_find (names_function_at same' (new p) h) ∙ ap node_of nor)
       (λ c f. let g : First (λ q. names_function_at same' (new p) h (under new q)) ps c = find_first (λ q. names_function_at same' (new p) h (under new q)) ps c f in
       let two : (names_function c.site ≡ true) × (at_home same' (new p) h (under new c) ≡ true) = and_parts _ _ g.passes in
       absurd (captured c g.among (names_declares c.site two.0) two.1)))
@@ -366,7 +366,7 @@ module _ {A B : Type 0} (same : A → A → Bool) (same' : B → B → Bool) (te
           let both : (same_scope (home c.site) h ≡ true) × (same' (new c) (new p) ≡ true) = and_parts _ _ a in
           let o : (b : Named A) × Owner same tells ps c b = owner same tells ps c j d in
           let n : new c ≡ new o.0 = named_so c o.0 j (in_from_Contains ps o.0 o.1.is.among) o.1.bound in
-          let at : home o.0.site ≡ h = o.1.homed ∙ same-eq (home c.site) h both.0 in
+          let at : home o.0.site ≡ h = o.1.homed ∙ same_scope_eq (home c.site) h both.0 in
           k.no_capture p o.0 (contains_from_in ps p i) r e o.1.is (subst (λ (s : Scope). is_inside p.site.setting.scope s ≡ true) (sym at) inside) (sym ((tells' (new c) (new p)).0 both.1) ∙ n)
 
   unbound_stays : (p : Named A) → In p ps → refers p.site ≡ true → binding same ps p ≡ None → (s : Scope) → is_inside p.site.setting.scope s ≡ true
@@ -375,7 +375,7 @@ module _ {A B : Type 0} (same : A → A → Bool) (same' : B → B → Bool) (te
   unbound_stays p i r e [] inside f = refl
   unbound_stays p i r e (h ∷ hs) inside f = told (binder same ps p.name (h ∷ hs))
       (λ none. ap (outer (binder same' (map (under new) ps) (new p)) hs) (unbound_here p (h ∷ hs) i r e inside none)
-      ∙ unbound_stays p i r e hs (inside-parent p.site.setting.scope h hs inside) (sym (ap (outer (binder same ps p.name) hs) none) ∙ f))
+      ∙ unbound_stays p i r e hs (inside_parent p.site.setting.scope h hs inside) (sym (ap (outer (binder same ps p.name) hs) none) ∙ f))
       (λ j g. absurd (none_some j (sym f ∙ ap (outer (binder same ps p.name) hs) g)))
 
   -- ---- all places
@@ -386,20 +386,20 @@ module _ {A B : Type 0} (same : A → A → Bool) (same' : B → B → Bool) (te
     where
       go : binding same ps p ≡ first_outwards (binder same ps p.name) p.site.setting.scope → first_outwards (binder same' (map (under new) ps) (new p)) p.site.setting.scope ≡ binding same ps p
       go was = told (first_outwards (binder same ps p.name) p.site.setting.scope)
-          (λ none. unbound_stays p i r (was ∙ none) p.site.setting.scope (inside-refl p.site.setting.scope) none ∙ sym (was ∙ none))
+          (λ none. unbound_stays p i r (was ∙ none) p.site.setting.scope (inside_refl p.site.setting.scope) none ∙ sym (was ∙ none))
           (λ n f. let source : (b : Named A) × (node b ≡ n) × IsBindingOf same ps b × At same tells ps p.name (home b.site) b × (is_inside p.site.setting.scope (home b.site) ≡ true) = outwards_source same tells ps p.name p.site.setting.scope n f in
           let e : binding same ps p ≡ Some (node source.0) = was ∙ f ∙ ap Some (sym source.1) in
-          bound_stays p source.0 i source.2 e source.3.named (named_so p source.0 i source.3.among e) p.site.setting.scope (inside-refl p.site.setting.scope) (f ∙ ap Some (sym source.1)) ∙ sym was)
+          bound_stays p source.0 i source.2 e source.3.named (named_so p source.0 i source.3.among e) p.site.setting.scope (inside_refl p.site.setting.scope) (f ∙ ap Some (sym source.1)) ∙ sym was)
 
   plainly_stays : (p : Named A) → In p ps → declares_plainly p.site ≡ true → binding same' (map (under new) ps) (under new p) ≡ binding same ps p
   unfolding all_open
   plainly_stays p i d =
       let o : (b : Named A) × Owner same tells ps p b = plain_owner same tells ps p i d in
       let among : In o.0 ps = in_from_Contains ps o.0 o.1.is.among in
-      let live : is_live_in same ps o.0 (home p.site) ≡ true = or_left _ _ (subst (λ (s : Scope). same_scope (home p.site) s ≡ true) (sym o.1.homed) (same-refl (home p.site))) in
+      let live : is_live_in same ps o.0 (home p.site) ≡ true = or_left _ _ (subst (λ (s : Scope). same_scope (home p.site) s ≡ true) (sym o.1.homed) (same_scope_refl (home p.site))) in
       let was : binding same ps p ≡ plain_binder same ps p.name (home p.site) = binding_plain same tells ps p d in
       binding_plain same' tells' (map (under new) ps) (under new p) d
-      ∙ plain-same o.0 p.name (new p) (home p.site) o.1.is o.1.named (named_so p o.0 i among o.1.bound) live
+      ∙ plain_same o.0 p.name (new p) (home p.site) o.1.is o.1.named (named_so p o.0 i among o.1.bound) live
       (λ c f. some_one (node c) (node o.0) (sym (ap node_of f) ∙ sym was ∙ o.1.bound))
       ∙ sym was
 

@@ -6,11 +6,11 @@ use Rattle.std.proofs.lemmas.Bool.{or_cases, or_left, or_right, and_parts, and_f
 use Rattle.std.proofs.lemmas.Simd.{map-map}
 use Rattle.list_laws.proofs.Mapped.{map_same, maps_agree}
 use Rattle.list_laws.proofs.AnyOf.{any_from, any_map, any_same, any_some}
-use Rattle.tree_places.proofs.Outwards.{inside-parent, inside-refl, same-eq}
+use Rattle.tree_places.proofs.Outwards.{inside_parent, inside_refl, same_scope_eq}
 use Rattle.tree_places.specs.Places.{Named}
 use Rattle.tree_places.specs.Scopes.{Scope, any_below, is_inside, same_scope}
 use Rattle.list_laws.proofs.Members.{In, contains_from_in}
-use Rattle.scope_rules.proofs.Stay.{Owner, binding_stays, owner, plainly, was_named}
+use Rattle.scope_rules.proofs.BindingsStay.{Owner, binding_stays, owner, plainly, was_named}
 use Rattle.scope_rules.specs.Bindings.{Bound, at_home, binding, bound, declares_at, is_node, node}
 use Rattle.scope_rules.specs.Faults.{binds_in, crosses, declares_in_head, has_crossing, has_reach, has_redeclaration, has_sloppy_function, has_undeclared, is_of_body, is_single_at, is_sloppy_function, is_undeclared, reaches_body, redeclares}
 use Rattle.scope_rules.specs.Homes.{declares, declares_plainly, home, is_joinable, is_single, is_var, refers}
@@ -59,7 +59,7 @@ module _ {A B : Type 0} (same : A → A → Bool) (same' : B → B → Bool) (te
   below_before test' test s₀ h f [] i j e = e
   below_before test' test s₀ h f (n ∷ ns) i j e =
       let one : (not (same_scope (n ∷ ns) h) ≡ true) × ((test' (n ∷ ns) || any_below test' h ns) ≡ true) = and_parts _ _ e in
-      and_from _ _ one.0 (go (or_cases _ _ one.1) (or_cases _ _ j) (below_before test' test s₀ h f ns (inside-parent s₀ n ns i)) one.0)
+      and_from _ _ one.0 (go (or_cases _ _ one.1) (or_cases _ _ j) (below_before test' test s₀ h f ns (inside_parent s₀ n ns i)) one.0)
     where
       not_both : (b : Bool) → not b ≡ true → b ≡ true → ⊥
       not_both true p q = both_ways false refl p
@@ -82,14 +82,14 @@ module _ {A B : Type 0} (same : A → A → Bool) (same' : B → B → Bool) (te
       let w : (q : Named A) × In q ps × (is_single_at same' (new p) r (under new q) ≡ true) = any_some (λ q. is_single_at same' (new p) r (under new q)) ps (sym (any_map (under new) (is_single_at same' (new p) r) ps) ∙ t) in
       let three : (is_single w.0.site ≡ true) × (at_home same' (new p) r (under new w.0) ≡ true) = and_parts _ _ w.2 in
       let four : (same_scope (home w.0.site) r ≡ true) × (same' (new w.0) (new p) ≡ true) = and_parts _ _ three.1 in
-      let at : home w.0.site ≡ r = same-eq (home w.0.site) r four.0 in
+      let at : home w.0.site ≡ r = same_scope_eq (home w.0.site) r four.0 in
       let reached : is_bound_inside same ps o.0 r ≡ true = any_from (λ q. is_node (binding same ps q) (node o.0) && is_inside q.site.setting.scope r) ps p i
       (and_from _ _ (ap (λ x. is_node x (node o.0)) o.1.bound ∙ eq-eqb (node o.0) (node o.0) refl) from) in
       let live : is_live_in same ps o.0 r ≡ true = or_right _ _ (and_from _ _ (subst (λ (s : Scope). is_inside r s ≡ true) (sym o.1.homed) to) reached) in
       any_from (is_single_at same p.name r) ps w.0 w.1
       (and_from _ _ three.0 (and_from _ _ four.0
       (was_same p w.0 o.0 i w.1 o.1 (plainly w.0.site (and_parts _ _ three.0).0).0 (subst (λ (s : Scope). is_live_in same ps o.0 s ≡ true) (sym at) live) four.1))))
-      p.site.setting.scope (inside-refl p.site.setting.scope) (homes p (contains_from_in ps p i)) one.1)
+      p.site.setting.scope (inside_refl p.site.setting.scope) (homes p (contains_from_in ps p i)) one.1)
 
   crossing_before : HomesLieOutside ps → has_crossing same' (all_under new ps) ≡ true → has_crossing same ps ≡ true
   unfolding all_open

@@ -4,8 +4,8 @@ use Rattle.one_scope.proofs.Owners.{owners_apart}
 use Rattle.one_scope.proofs.Weights.{weights_none, turn_fits, turn_few, turn_counts, turn_passes, turn_places}
 use Rattle.one_scope.specs.EntryViews.{entry_view}
 use Rattle.one_scope.specs.Flat.{flat_slot, flat_slots, slot_owners}
-use Rattle.one_scope.proofs.slots.slots_of.Goals as goal
-use Rattle.one_scope.proofs.slots.slots_of.Goals.{then-is_reference, else-is_reference}
+use Rattle.one_scope.proofs.slots.slots_of_places.Goals as goal
+use Rattle.one_scope.proofs.slots.slots_of_places.Goals.{then-is_reference, else-is_reference}
 
 pub loop-entry-init : goal.loop-entry-init
 loop-entry-init c = record {

@@ -12,13 +12,13 @@ use Rattle.tree_nodes.specs.Tree.{Parts}
 use Rattle.tree_nodes.specs.declared.table.Declared.TheVariants.{Function, FunctionName, Param, Var}
 use Rattle.tree_nodes.specs.declared.table.Role.{Role}
 use Rattle.tree_nodes.specs.declared.table.Role.TheVariants.{Declares}
-use Rattle.tree_places.proofs.Outwards.{inside-antisym, same-eq, same-refl}
+use Rattle.tree_places.proofs.Outwards.{inside_antisym, same_scope_eq, same_scope_refl}
 use Rattle.tree_places.proofs.Rising.{numbers_rise}
 use Rattle.tree_places.specs.Laws.{RiseFrom}
 use Rattle.tree_places.specs.Places.{Named, Place, Site, named_by, names, places, sites}
 use Rattle.tree_places.specs.Scopes.{Scope, any_below, first_outwards, is_inside, same_scope}
 use Rattle.list_laws.proofs.Members.{In, in_from_Contains}
-use Rattle.scope_rules.proofs.Stay.{At, Owner, binder_source, binding_plain, binding_refers, binding_source, binds, declares_plain, owner}
+use Rattle.scope_rules.proofs.BindingsStay.{At, Owner, binder_source, binding_plain, binding_refers, binding_source, binds, declares_plain, owner}
 use Rattle.scope_rules.proofs.VarScopes.{Pinned, hoisted, is_pinned, pinned}
 use Rattle.scope_rules.specs.Bindings.{binder, binding, is_node, node, plain_binder, same_name, shadower}
 use Rattle.scope_rules.specs.Faults.{crosses, has_crossing, is_single_at}
@@ -29,22 +29,22 @@ use Rattle.scope_rules.specs.Separation.{IsShadowedBy, NamesSeparate, function_n
 
 -- ---- what declares is single, or has a var scope as its home
 
-homed-by : (p : Bool) (r : Role) (l : Bool) (s v : Scope) → (p && is_declaring r) ≡ true → (l ≡ true → s ≡ v) → (is_pinned r ≡ true → s ≡ v)
+homed_by : (p : Bool) (r : Role) (l : Bool) (s v : Scope) → (p && is_declaring r) ≡ true → (l ≡ true → s ≡ v) → (is_pinned r ≡ true → s ≡ v)
     → ((((p && is_declaring r) && not (is_function_name r)) && not (joins r l)) ≡ true) ⊎ (cond (is_var r) v s ≡ v)
 unfolding all_open
-homed-by true (Declares Var) l s v d lies pin = inr refl
-homed-by true (Declares Param) l s v d lies pin = inr (pin refl)
-homed-by true (Declares (FunctionName special)) l s v d lies pin = inr (pin refl)
-homed-by true (Declares (Function special)) true s v d lies pin = inr (lies refl)
-homed-by true (Declares (Function special)) false s v d lies pin = inl refl
-homed-by true (Declares _) l s v d lies pin = inl refl
-homed-by true _ l s v d lies pin = absurd (both_ways false refl d)
-homed-by false r l s v d lies pin = absurd (both_ways false refl d)
+homed_by true (Declares Var) l s v d lies pin = inr refl
+homed_by true (Declares Param) l s v d lies pin = inr (pin refl)
+homed_by true (Declares (FunctionName special)) l s v d lies pin = inr (pin refl)
+homed_by true (Declares (Function special)) true s v d lies pin = inr (lies refl)
+homed_by true (Declares (Function special)) false s v d lies pin = inl refl
+homed_by true (Declares _) l s v d lies pin = inl refl
+homed_by true _ l s v d lies pin = absurd (both_ways false refl d)
+homed_by false r l s v d lies pin = absurd (both_ways false refl d)
 
 single_or_hoisted : (q : Site) → declares q ≡ true → Pinned q.setting → (is_single q ≡ true) ⊎ (home q ≡ q.setting.var_scope)
 unfolding all_open
 single_or_hoisted q d pin =
-    homed-by (not q.private) q.setting.role (same_scope q.setting.scope q.setting.var_scope) q.setting.scope q.setting.var_scope d (same-eq q.setting.scope q.setting.var_scope) pin
+    homed_by (not q.private) q.setting.role (same_scope q.setting.scope q.setting.var_scope) q.setting.scope q.setting.var_scope d (same_scope_eq q.setting.scope q.setting.var_scope) pin
 
 -- what is found on the way outwards lies at or inside a scope that has something
 nearest_inside : (f : Scope → Option ℕ) (h s : Scope) (n : ℕ) → (f h ≡ None → ⊥) → is_inside s h ≡ true → first_outwards f s ≡ Some n → (r : Scope) × (f r ≡ Some n) × (is_inside r h ≡ true)
@@ -59,22 +59,22 @@ nearest_inside f h (k ∷ ks) n some i e = told (f (k ∷ ks))
 
     at : f (k ∷ ks) ≡ None → (same_scope (k ∷ ks) h ≡ true) ⊎ (is_inside ks h ≡ true) → (is_inside ks h ≡ true → first_outwards f ks ≡ Some n → (r : Scope) × (f r ≡ Some n) × (is_inside r h ≡ true))
         → first_outwards f ks ≡ Some n → (r : Scope) × (f r ≡ Some n) × (is_inside r h ≡ true)
-    at none (inl q) ih g = absurd (some (subst (λ (r : Scope). f r ≡ None) (same-eq (k ∷ ks) h q) none))
+    at none (inl q) ih g = absurd (some (subst (λ (r : Scope). f r ≡ None) (same_scope_eq (k ∷ ks) h q) none))
     at none (inr q) ih g = ih q g
 
 -- a test that a scope passes, strictly inside a home
 below_from : (test : Scope → Bool) (h r s : Scope) → is_inside s r ≡ true → is_inside r h ≡ true → (r ≡ h → ⊥) → (r ≡ [] → ⊥) → test r ≡ true → any_below test h s ≡ true
 unfolding all_open
-below_from test h r [] i j n e t = absurd (e (sym (same-eq [] r i)))
+below_from test h r [] i j n e t = absurd (e (sym (same_scope_eq [] r i)))
 below_from test h r (k ∷ ks) i j n e t = and_from _ _ (other (same_scope (k ∷ ks) h) refl) (at (or_cases _ _ i) (below_from test h r ks))
   where
     other : (b : Bool) → same_scope (k ∷ ks) h ≡ b → not b ≡ true
-    other true q = absurd (n (inside-antisym r h j (subst (λ (x : Scope). is_inside x r ≡ true) (same-eq (k ∷ ks) h q) i)))
+    other true q = absurd (n (inside_antisym r h j (subst (λ (x : Scope). is_inside x r ≡ true) (same_scope_eq (k ∷ ks) h q) i)))
     other false q = refl
 
     at : (same_scope (k ∷ ks) r ≡ true) ⊎ (is_inside ks r ≡ true) → (is_inside ks r ≡ true → is_inside r h ≡ true → (r ≡ h → ⊥) → (r ≡ [] → ⊥) → test r ≡ true → any_below test h ks ≡ true)
         → (test (k ∷ ks) || any_below test h ks) ≡ true
-    at (inl q) ih = or_left _ _ (subst (λ (x : Scope). test x ≡ true) (sym (same-eq (k ∷ ks) r q)) t)
+    at (inl q) ih = or_left _ _ (subst (λ (x : Scope). test x ≡ true) (sym (same_scope_eq (k ∷ ks) r q)) t)
     at (inr q) ih = or_right _ _ (ih q j n e t)
 
 node_told : (x : Option ℕ) (n : ℕ) → is_node x n ≡ true → x ≡ Some n
@@ -112,7 +112,7 @@ module _ {N : Type 0} (same : N → N → Bool) (tells : TellsSame same) (ps : L
   not_crossed p b i j d v s n inside within apart root =
       both_ways _ free (any_from (crosses same ps) ps p i (and_from _ _ (and_from _ _ d v)
       (below_from (λ r. list_any (is_single_at same p.name r) ps) (home p.site) (home b.site) p.site.setting.scope inside within apart root
-      (any_from (is_single_at same p.name (home b.site)) ps b j (and_from _ _ s (and_from _ _ (same-refl (home b.site)) ((tells b.name p.name).1 (sym n))))))))
+      (any_from (is_single_at same p.name (home b.site)) ps b j (and_from _ _ s (and_from _ _ (same_scope_refl (home b.site)) ((tells b.name p.name).1 (sym n))))))))
 
   -- a place that declares a and lies in the home of b
   by_declaration : (a b p : Named N) → IsBindingOf same ps a → IsBindingOf same ps b → In p ps → declares p.site ≡ true → home a.site ≡ home p.site → p.name ≡ b.name
@@ -142,18 +142,18 @@ module _ {N : Type 0} (same : N → N → Bool) (tells : TellsSame same) (ps : L
   one_home a b ia ib live n = go (or_cases _ _ live)
     where
       go : (same_scope (home b.site) (home a.site) ≡ true) ⊎ ((is_inside (home b.site) (home a.site) && is_bound_inside same ps a (home b.site)) ≡ true) → home a.site ≡ home b.site
-      go (inl e) = sym (same-eq (home b.site) (home a.site) e)
+      go (inl e) = sym (same_scope_eq (home b.site) (home a.site) e)
       go (inr e) = tested (same_scope (home b.site) (home a.site))
-          (λ q. sym (same-eq (home b.site) (home a.site) q))
+          (λ q. sym (same_scope_eq (home b.site) (home a.site) q))
           (λ q.
           let two : (is_inside (home b.site) (home a.site) ≡ true) × (is_bound_inside same ps a (home b.site) ≡ true) = and_parts _ _ e in
-          let apart : home b.site ≡ home a.site → ⊥ = λ f. both_ways _ q (subst (λ (x : Scope). same_scope (home b.site) x ≡ true) f (same-refl (home b.site))) in
-          let root : home b.site ≡ [] → ⊥ = λ f. apart (f ∙ same-eq [] (home a.site) (subst (λ (x : Scope). is_inside x (home a.site) ≡ true) f two.0)) in
+          let apart : home b.site ≡ home a.site → ⊥ = λ f. both_ways _ q (subst (λ (x : Scope). same_scope (home b.site) x ≡ true) f (same_scope_refl (home b.site))) in
+          let root : home b.site ≡ [] → ⊥ = λ f. apart (f ∙ same_scope_eq [] (home a.site) (subst (λ (x : Scope). is_inside x (home a.site) ≡ true) f two.0)) in
           let w : (p : Named N) × In p ps × ((is_node (binding same ps p) (node a) && is_inside p.site.setting.scope (home b.site)) ≡ true) =
           any_some (λ p. is_node (binding same ps p) (node a) && is_inside p.site.setting.scope (home b.site)) ps two.1 in
           let three : (is_node (binding same ps w.0) (node a) ≡ true) × (is_inside w.0.site.setting.scope (home b.site) ≡ true) = and_parts _ _ w.2 in
           let to : binding same ps w.0 ≡ Some (node a) = node_told (binding same ps w.0) (node a) three.0 in
-          inside-antisym (home a.site) (home b.site)
+          inside_antisym (home a.site) (home b.site)
           (tested (refers w.0.site)
           (λ r. by_reference a b w.0 ia ib w.1 r to three.1 n (reference_name w.0 w.1 r to ia))
           (λ r. tested (declares w.0.site)
@@ -198,7 +198,7 @@ apart_sites (s ∷ ss) p q h i j f g e = go i j (apart_sites ss p q (and_parts _
   where
     no : (r : Site) → In r ss → names_function s ≡ true → names_function r ≡ true → home r ≡ home s → ⊥
     no r k f' g' e' = clash (names_function s && list_any (λ x. names_function x && same_scope (home x) (home s)) ss) (and_parts _ _ h).0
-        (and_from _ _ f' (any_from (λ x. names_function x && same_scope (home x) (home s)) ss r k (and_from _ _ g' (subst (λ (x : Scope). same_scope (home r) x ≡ true) e' (same-refl (home r))))))
+        (and_from _ _ f' (any_from (λ x. names_function x && same_scope (home x) (home s)) ss r k (and_from _ _ g' (subst (λ (x : Scope). same_scope (home r) x ≡ true) e' (same_scope_refl (home r))))))
       where
         clash : (b : Bool) → not b ≡ true → b ≡ true → ⊥
         clash true x y = both_ways false refl x

@@ -1,7 +1,7 @@
 use Rattle.std.specs.Prelude.{◌≡◌, map, take}
 use Rattle.one_scope.specs.EntryViews.{entry_view}
 use Rattle.one_scope.specs.Flat.{flat_slot, flat_weight, slot_owners}
-use Rattle.one_scope.proofs.slots.slots_of.Given as goal
+use Rattle.one_scope.proofs.slots.slots_of_places.Given as goal
 
 abbrev pub invariant-loop-entry : goal.invariant-loop-entry
 invariant-loop-entry l = record {

@@ -9,7 +9,7 @@ use Rattle.list_laws.proofs.PairsOf.{PairsOf}
 use Rattle.scope_rules.proofs.SameNames.{same_name_tells, among_in}
 use Rattle.syntax_lex.specs.Keyword.{is_reserved_keyword, reserved_keywords}
 use Rattle.list_laws.proofs.Counting.{no_more}
-use Rattle.name_rules.proofs.Numbered.{short_is_one_to_one}
+use Rattle.name_rules.proofs.ShortNumbers.{short_is_one_to_one}
 use Rattle.list_laws.proofs.AllOf.{of_each}
 use Rattle.name_rules.specs.FreeNames.{first_untaken, is_spelled, is_taken, is_unchanged}
 use Rattle.name_rules.specs.GivenNames.{free_names}
@@ -31,10 +31,10 @@ abbrev read_digits : ℕ → Text → ℕ
 read_digits n [] = n
 read_digits n (c ∷ cs) = read_digits (n * 10 + (c - 48)) cs
 
-digits-read : (fuel n : ℕ) (after : Text) → n < fuel → read_digits 0 (digits_onto fuel n after) ≡ read_digits n after
+digits_read : (fuel n : ℕ) (after : Text) → n < fuel → read_digits 0 (digits_onto fuel n after) ≡ read_digits n after
 unfolding all_open
-digits-read zero n after h = absurd (omega (arith, h))
-digits-read (suc fuel) n after h = go (nat_lt n 10) refl (λ a s. digits-read fuel (n / 10) a s)
+digits_read zero n after h = absurd (omega (arith, h))
+digits_read (suc fuel) n after h = go (nat_lt n 10) refl (λ a s. digits_read fuel (n / 10) a s)
   where
     ten : (m : ℕ) → nat_lt m 10 ≡ false → 10 ≤ m
     ten m e = grind (arith, e)
@@ -54,7 +54,7 @@ past_five _ = []
 readable_one : (m n : ℕ) → readable_name m ≡ readable_name n → m ≡ n
 unfolding all_open past_five
 readable_one m n e =
-    sym (digits-read (suc m) m [] (omega arith)) ∙ ap (λ x. read_digits 0 (past_five x)) e ∙ digits-read (suc n) n [] (omega arith)
+    sym (digits_read (suc m) m [] (omega arith)) ∙ ap (λ x. read_digits 0 (past_five x)) e ∙ digits_read (suc n) n [] (omega arith)
 
 pub candidate_one : (readable : Bool) (m n : ℕ) → candidate readable m ≡ candidate readable n → m ≡ n
 unfolding all_open
@@ -79,11 +79,11 @@ first_untaken_same name p q h (suc fuel) (suc n) k = go (p (name k)) (q (name k)
     go false true e ih jh = absurd (both_ways false refl e)
 
 module _ (name : ℕ → Text) (one : (m n : ℕ) → name m ≡ name n → m ≡ n) (taken : Text → Bool) where
-  all-untaken : (fuel n k : ℕ) → AllOf (λ x. taken x ≡ false) (first_untaken name taken fuel n k)
+  all_untaken : (fuel n k : ℕ) → AllOf (λ x. taken x ≡ false) (first_untaken name taken fuel n k)
   unfolding all_open
-  all-untaken zero n k = tt
-  all-untaken (suc fuel) zero k = tt
-  all-untaken (suc fuel) (suc n) k = go (taken (name k)) refl (all-untaken fuel (suc n) (suc k)) (all-untaken fuel n (suc k))
+  all_untaken zero n k = tt
+  all_untaken (suc fuel) zero k = tt
+  all_untaken (suc fuel) (suc n) k = go (taken (name k)) refl (all_untaken fuel (suc n) (suc k)) (all_untaken fuel n (suc k))
     where
       go : (b : Bool) → taken (name k) ≡ b → AllOf (λ x. taken x ≡ false) (first_untaken name taken fuel (suc n) (suc k)) → AllOf (λ x. taken x ≡ false) (first_untaken name taken fuel n (suc k))
           → AllOf (λ x. taken x ≡ false) (elim b as (λ c. List Text) [ true ↦ first_untaken name taken fuel (suc n) (suc k) | false ↦ name k ∷ first_untaken name taken fuel n (suc k) ])
@@ -94,26 +94,26 @@ module _ (name : ℕ → Text) (one : (m n : ℕ) → name m ≡ name n → m �
   abbrev Later : ℕ → Text → Type 0
   Later k x = (j : ℕ) × (k ≤ j) × (x ≡ name j)
 
-  later-more : (k : ℕ) (xs : List Text) → AllOf (Later (suc k)) xs → AllOf (Later k) xs
-  later-more k [] a = tt
-  later-more k (x ∷ xs) a = ((a.0.0, (let h : suc k ≤ a.0.0 = a.0.1 in omega (arith, h)), a.0.2), later-more k xs a.1)
+  later_more : (k : ℕ) (xs : List Text) → AllOf (Later (suc k)) xs → AllOf (Later k) xs
+  later_more k [] a = tt
+  later_more k (x ∷ xs) a = ((a.0.0, (let h : suc k ≤ a.0.0 = a.0.1 in omega (arith, h)), a.0.2), later_more k xs a.1)
 
-  all-later : (fuel n k : ℕ) → AllOf (Later k) (first_untaken name taken fuel n k)
+  all_later : (fuel n k : ℕ) → AllOf (Later k) (first_untaken name taken fuel n k)
   unfolding all_open
-  all-later zero n k = tt
-  all-later (suc fuel) zero k = tt
-  all-later (suc fuel) (suc n) k = go (taken (name k)) (later-more k (first_untaken name taken fuel (suc n) (suc k)) (all-later fuel (suc n) (suc k))) (later-more k (first_untaken name taken fuel n (suc k)) (all-later fuel n (suc k)))
+  all_later zero n k = tt
+  all_later (suc fuel) zero k = tt
+  all_later (suc fuel) (suc n) k = go (taken (name k)) (later_more k (first_untaken name taken fuel (suc n) (suc k)) (all_later fuel (suc n) (suc k))) (later_more k (first_untaken name taken fuel n (suc k)) (all_later fuel n (suc k)))
     where
       go : (b : Bool) → AllOf (Later k) (first_untaken name taken fuel (suc n) (suc k)) → AllOf (Later k) (first_untaken name taken fuel n (suc k))
           → AllOf (Later k) (elim b as (λ c. List Text) [ true ↦ first_untaken name taken fuel (suc n) (suc k) | false ↦ name k ∷ first_untaken name taken fuel n (suc k) ])
       go true ih jh = ih
       go false ih jh = ((k, omega arith, refl), jh)
 
-  all-different : (fuel n k : ℕ) → PairsOf (λ x y. x ≡ y → ⊥) (first_untaken name taken fuel n k)
+  untaken_different : (fuel n k : ℕ) → PairsOf (λ x y. x ≡ y → ⊥) (first_untaken name taken fuel n k)
   unfolding all_open
-  all-different zero n k = tt
-  all-different (suc fuel) zero k = tt
-  all-different (suc fuel) (suc n) k = go (taken (name k)) (all-different fuel (suc n) (suc k)) (all-different fuel n (suc k))
+  untaken_different zero n k = tt
+  untaken_different (suc fuel) zero k = tt
+  untaken_different (suc fuel) (suc n) k = go (taken (name k)) (untaken_different fuel (suc n) (suc k)) (untaken_different fuel n (suc k))
     where
       other : (xs : List Text) → AllOf (Later (suc k)) xs → AllOf (λ y. name k ≡ y → ⊥) xs
       other [] a = tt
@@ -122,7 +122,7 @@ module _ (name : ℕ → Text) (one : (m n : ℕ) → name m ≡ name n → m �
       go : (b : Bool) → PairsOf (λ x y. x ≡ y → ⊥) (first_untaken name taken fuel (suc n) (suc k)) → PairsOf (λ x y. x ≡ y → ⊥) (first_untaken name taken fuel n (suc k))
           → PairsOf (λ x y. x ≡ y → ⊥) (elim b as (λ c. List Text) [ true ↦ first_untaken name taken fuel (suc n) (suc k) | false ↦ name k ∷ first_untaken name taken fuel n (suc k) ])
       go true ih jh = ih
-      go false ih jh = (other (first_untaken name taken fuel n (suc k)) (all-later fuel n (suc k)), jh)
+      go false ih jh = (other (first_untaken name taken fuel n (suc k)) (all_later fuel n (suc k)), jh)
 
   -- those that are passed over
   unfoldable pub passed : ℕ → ℕ → ℕ → List Text
@@ -130,32 +130,32 @@ module _ (name : ℕ → Text) (one : (m n : ℕ) → name m ≡ name n → m �
   passed (suc fuel) zero k = []
   passed (suc fuel) (suc n) k = cond (taken (name k)) (name k ∷ passed fuel (suc n) (suc k)) (passed fuel n (suc k))
 
-  pub passed-taken : (fuel n k : ℕ) → AllOf (λ x. taken x ≡ true) (passed fuel n k)
+  pub passed_taken : (fuel n k : ℕ) → AllOf (λ x. taken x ≡ true) (passed fuel n k)
   unfolding passed
-  passed-taken zero n k = tt
-  passed-taken (suc fuel) zero k = tt
-  passed-taken (suc fuel) (suc n) k = go (taken (name k)) refl (passed-taken fuel (suc n) (suc k)) (passed-taken fuel n (suc k))
+  passed_taken zero n k = tt
+  passed_taken (suc fuel) zero k = tt
+  passed_taken (suc fuel) (suc n) k = go (taken (name k)) refl (passed_taken fuel (suc n) (suc k)) (passed_taken fuel n (suc k))
     where
       go : (b : Bool) → taken (name k) ≡ b → AllOf (λ x. taken x ≡ true) (passed fuel (suc n) (suc k)) → AllOf (λ x. taken x ≡ true) (passed fuel n (suc k))
           → AllOf (λ x. taken x ≡ true) (cond b (name k ∷ passed fuel (suc n) (suc k)) (passed fuel n (suc k)))
       go true e ih jh = (e, ih)
       go false e ih jh = jh
 
-  passed-later : (fuel n k : ℕ) → AllOf (Later k) (passed fuel n k)
+  passed_later : (fuel n k : ℕ) → AllOf (Later k) (passed fuel n k)
   unfolding passed
-  passed-later zero n k = tt
-  passed-later (suc fuel) zero k = tt
-  passed-later (suc fuel) (suc n) k = go (taken (name k)) (later-more k (passed fuel (suc n) (suc k)) (passed-later fuel (suc n) (suc k))) (later-more k (passed fuel n (suc k)) (passed-later fuel n (suc k)))
+  passed_later zero n k = tt
+  passed_later (suc fuel) zero k = tt
+  passed_later (suc fuel) (suc n) k = go (taken (name k)) (later_more k (passed fuel (suc n) (suc k)) (passed_later fuel (suc n) (suc k))) (later_more k (passed fuel n (suc k)) (passed_later fuel n (suc k)))
     where
       go : (b : Bool) → AllOf (Later k) (passed fuel (suc n) (suc k)) → AllOf (Later k) (passed fuel n (suc k)) → AllOf (Later k) (cond b (name k ∷ passed fuel (suc n) (suc k)) (passed fuel n (suc k)))
       go true ih jh = ((k, omega arith, refl), ih)
       go false ih jh = jh
 
-  pub passed-different : (fuel n k : ℕ) → PairsOf (λ x y. x ≡ y → ⊥) (passed fuel n k)
+  pub passed_different : (fuel n k : ℕ) → PairsOf (λ x y. x ≡ y → ⊥) (passed fuel n k)
   unfolding passed
-  passed-different zero n k = tt
-  passed-different (suc fuel) zero k = tt
-  passed-different (suc fuel) (suc n) k = go (taken (name k)) (passed-different fuel (suc n) (suc k)) (passed-different fuel n (suc k))
+  passed_different zero n k = tt
+  passed_different (suc fuel) zero k = tt
+  passed_different (suc fuel) (suc n) k = go (taken (name k)) (passed_different fuel (suc n) (suc k)) (passed_different fuel n (suc k))
     where
       other : (xs : List Text) → AllOf (Later (suc k)) xs → AllOf (λ y. name k ≡ y → ⊥) xs
       other [] a = tt
@@ -163,16 +163,16 @@ module _ (name : ℕ → Text) (one : (m n : ℕ) → name m ≡ name n → m �
 
       go : (b : Bool) → PairsOf (λ x y. x ≡ y → ⊥) (passed fuel (suc n) (suc k)) → PairsOf (λ x y. x ≡ y → ⊥) (passed fuel n (suc k))
           → PairsOf (λ x y. x ≡ y → ⊥) (cond b (name k ∷ passed fuel (suc n) (suc k)) (passed fuel n (suc k)))
-      go true ih jh = (other (passed fuel (suc n) (suc k)) (passed-later fuel (suc n) (suc k)), ih)
+      go true ih jh = (other (passed fuel (suc n) (suc k)) (passed_later fuel (suc n) (suc k)), ih)
       go false ih jh = jh
 
   -- n are found, or all fuel is used
-  scan : (fuel n k : ℕ) → (length (first_untaken name taken fuel n k) ≡ n) ⊎ ((fuel ≤ length (passed fuel n k) + length (first_untaken name taken fuel n k)) × (length (first_untaken name taken fuel n k) < n))
+  untaken_or_no_fuel : (fuel n k : ℕ) → (length (first_untaken name taken fuel n k) ≡ n) ⊎ ((fuel ≤ length (passed fuel n k) + length (first_untaken name taken fuel n k)) × (length (first_untaken name taken fuel n k) < n))
   unfolding all_open passed
-  scan zero zero k = inl refl
-  scan zero (suc n) k = inr (omega arith, omega arith)
-  scan (suc fuel) zero k = inl refl
-  scan (suc fuel) (suc n) k = go (taken (name k)) (scan fuel (suc n) (suc k)) (scan fuel n (suc k))
+  untaken_or_no_fuel zero zero k = inl refl
+  untaken_or_no_fuel zero (suc n) k = inr (omega arith, omega arith)
+  untaken_or_no_fuel (suc fuel) zero k = inl refl
+  untaken_or_no_fuel (suc fuel) (suc n) k = go (taken (name k)) (untaken_or_no_fuel fuel (suc n) (suc k)) (untaken_or_no_fuel fuel n (suc k))
     where
       go : (b : Bool)
           → (length (first_untaken name taken fuel (suc n) (suc k)) ≡ suc n) ⊎ ((fuel ≤ length (passed fuel (suc n) (suc k)) + length (first_untaken name taken fuel (suc n) (suc k))) × (length (first_untaken name taken fuel (suc n) (suc k)) < suc n))
@@ -188,11 +188,11 @@ module _ (name : ℕ → Text) (one : (m n : ℕ) → name m ≡ name n → m �
           let b : length (first_untaken name taken fuel n (suc k)) < n = w.1 in
           inr (omega (arith, a), omega (arith, b))
 
-  pub enough : (listed : List Text) → ((x : Text) → taken x ≡ true → In x listed) → (fuel n k : ℕ) → n + length listed ≤ fuel → length (first_untaken name taken fuel n k) ≡ n
-  enough listed f fuel n k h = go (scan fuel n k)
+  pub enough_untaken : (listed : List Text) → ((x : Text) → taken x ≡ true → In x listed) → (fuel n k : ℕ) → n + length listed ≤ fuel → length (first_untaken name taken fuel n k) ≡ n
+  enough_untaken listed f fuel n k h = go (untaken_or_no_fuel fuel n k)
     where
       few : length (passed fuel n k) ≤ length listed
-      few = no_more same_name same_name_tells (passed fuel n k) listed (passed-different fuel n k) (λ x i. f x (of_each (λ y. taken y ≡ true) (passed fuel n k) x (passed-taken fuel n k) i))
+      few = no_more same_name same_name_tells (passed fuel n k) listed (passed_different fuel n k) (λ x i. f x (of_each (λ y. taken y ≡ true) (passed fuel n k) x (passed_taken fuel n k) i))
 
       go : (length (first_untaken name taken fuel n k) ≡ n) ⊎ ((fuel ≤ length (passed fuel n k) + length (first_untaken name taken fuel n k)) × (length (first_untaken name taken fuel n k) < n)) → length (first_untaken name taken fuel n k) ≡ n
       go (inl e) = e
@@ -204,9 +204,9 @@ module _ (name : ℕ → Text) (one : (m n : ℕ) → name m ≡ name n → m �
 all_taken : Options → List Member → List Text
 all_taken o ms = reserved_keywords ++ (name_eval ∷ name_arguments ∷ (o.reserved ++ map (λ m. m.place.name) ms))
 
-taken-listed : (o : Options) (ms : List Member) (x : Text) → is_taken o ms x ≡ true → In x (all_taken o ms)
+taken_listed : (o : Options) (ms : List Member) (x : Text) → is_taken o ms x ≡ true → In x (all_taken o ms)
 unfolding all_open all_taken
-taken-listed o ms x h = first (or_cases _ _ h)
+taken_listed o ms x h = first (or_cases _ _ h)
   where
     past : In x (name_eval ∷ name_arguments ∷ (o.reserved ++ map (λ (m : Member). m.place.name) ms)) → In x (reserved_keywords ++ (name_eval ∷ name_arguments ∷ (o.reserved ++ map (λ (m : Member). m.place.name) ms)))
     past i = in_right reserved_keywords (name_eval ∷ name_arguments ∷ (o.reserved ++ map (λ (m : Member). m.place.name) ms)) x i
@@ -236,20 +236,20 @@ taken-listed o ms x h = first (or_cases _ _ h)
 
 -- ---- the free names of a tree
 
-pub free-length : (o : Options) (ms : List Member) (n : ℕ) → length (free_names o ms n) ≡ n
+pub free_names_length : (o : Options) (ms : List Member) (n : ℕ) → length (free_names o ms n) ≡ n
 unfolding all_open all_taken
-free-length o ms n = enough (candidate o.readable) (candidate_one o.readable) (is_taken o ms) (all_taken o ms) (taken-listed o ms) (n + 48 + length o.reserved + length ms) n 0
+free_names_length o ms n = enough_untaken (candidate o.readable) (candidate_one o.readable) (is_taken o ms) (all_taken o ms) (taken_listed o ms) (n + 48 + length o.reserved + length ms) n 0
     (let a : length (o.reserved ++ map (λ (m : Member). m.place.name) ms) ≡ length o.reserved + length (map (λ (m : Member). m.place.name) ms) = length-append o.reserved (map (λ (m : Member). m.place.name) ms) in
     let b : length (map (λ (m : Member). m.place.name) ms) ≡ length ms = length-map ms (λ (m : Member). m.place.name) in
     omega (arith, a, b))
 
-pub free-different : (o : Options) (ms : List Member) (n : ℕ) → PairsOf (λ x y. x ≡ y → ⊥) (free_names o ms n)
+pub free_different : (o : Options) (ms : List Member) (n : ℕ) → PairsOf (λ x y. x ≡ y → ⊥) (free_names o ms n)
 unfolding all_open
-free-different o ms n = all-different (candidate o.readable) (candidate_one o.readable) (is_taken o ms) (n + 48 + length o.reserved + length ms) n 0
+free_different o ms n = untaken_different (candidate o.readable) (candidate_one o.readable) (is_taken o ms) (n + 48 + length o.reserved + length ms) n 0
 
-pub free-untaken : (o : Options) (ms : List Member) (n : ℕ) → AllOf (λ x. is_taken o ms x ≡ false) (free_names o ms n)
+pub free_untaken : (o : Options) (ms : List Member) (n : ℕ) → AllOf (λ x. is_taken o ms x ≡ false) (free_names o ms n)
 unfolding all_open
-free-untaken o ms n = all-untaken (candidate o.readable) (candidate_one o.readable) (is_taken o ms) (n + 48 + length o.reserved + length ms) n 0
+free_untaken o ms n = all_untaken (candidate o.readable) (candidate_one o.readable) (is_taken o ms) (n + 48 + length o.reserved + length ms) n 0
 
 -- ---- how names are spelled
 
@@ -295,9 +295,9 @@ unfolding all_open starts_name
 spelled_told true n = digits_told (suc n) n [] refl
 spelled_told false n = and_from _ _ (start_told (n % 54) (let h : n % 54 < 54 = omega arith in h)) (parts_told n (n / 54))
 
-pub free-spelled : (o : Options) (ms : List Member) (n : ℕ) → AllOf (λ x. is_spelled x ≡ true) (free_names o ms n)
+pub free_spelled : (o : Options) (ms : List Member) (n : ℕ) → AllOf (λ x. is_spelled x ≡ true) (free_names o ms n)
 unfolding all_open
-free-spelled o ms n = go (free_names o ms n) (all-later (candidate o.readable) (candidate_one o.readable) (is_taken o ms) (n + 48 + length o.reserved + length ms) n 0)
+free_spelled o ms n = go (free_names o ms n) (all_later (candidate o.readable) (candidate_one o.readable) (is_taken o ms) (n + 48 + length o.reserved + length ms) n 0)
   where
     go : (xs : List Text) → AllOf (Later (candidate o.readable) (candidate_one o.readable) (is_taken o ms) 0) xs → AllOf (λ x. is_spelled x ≡ true) xs
     go [] a = tt

@@ -11,9 +11,9 @@ use Rattle.scope_rules.proofs.PlacesRise.{named_site, one_of_number, places_rise
 use Rattle.list_laws.proofs.Tests.{none_some, some_one, told}
 use Rattle.list_laws.proofs.AnyOf.{any_from, any_some}
 use Rattle.list_laws.proofs.FirstOf.{First, find_first, find_none}
-use Rattle.name_rules.proofs.Apart.{never_together}
-use Rattle.name_rules.proofs.Fewest.{Ordered_apart, pairs-apart, slotted-groups}
-use Rattle.name_rules.proofs.Order.{groups_in_order}
+use Rattle.name_rules.proofs.GroupsStandApart.{never_together}
+use Rattle.name_rules.proofs.SlotsAreFewest.{Ordered_apart, pairs_apart, slotted_groups}
+use Rattle.name_rules.proofs.GroupsInOrder.{groups_in_order}
 use Rattle.list_laws.proofs.AllOf.{of_each}
 use Rattle.name_rules.specs.FreeNames.{is_taken, is_unchanged}
 use Rattle.name_rules.specs.Groups.{Group, Member, group_at, group_led_by, group_of, groups, groups_of, is_live, leads, members, reaches}
@@ -24,14 +24,14 @@ use Rattle.name_rules.specs.SlotNames.{FitSlots, group_in, named_by_slot, slot_i
 use Rattle.name_rules.specs.Slots.{Slotted, number_of_slots, slot_of, slots_of}
 use Rattle.tree_nodes.specs.Tree.{Parts, Text}
 use Rattle.tree_places.proofs.Homed.{var_scopes_lie_outside}
-use Rattle.tree_places.proofs.Outwards.{inside-refl, same-eq, same-refl}
+use Rattle.tree_places.proofs.Outwards.{inside_refl, same_scope_eq, same_scope_refl}
 use Rattle.tree_places.proofs.Rising.{numbers_rise}
 use Rattle.tree_places.proofs.Rooted.{scopes_around}
 use Rattle.tree_places.specs.Laws.{IsRooted, RiseFrom}
 use Rattle.tree_places.specs.Places.{Named, Place, Site, named_by, names, places, scopes, sites, withs}
 use Rattle.tree_places.specs.Scopes.{Scope, is_inside, same_scope}
 use Rattle.list_laws.proofs.Members.{In, in_from_Contains, from_append, from_filter, from_map, in_filter, in_left, in_map, in_right}
-use Rattle.scope_rules.proofs.Stay.{At, binding_source, first_own, plainly, unbound_nothing}
+use Rattle.scope_rules.proofs.BindingsStay.{At, binding_source, first_own, plainly, unbound_nothing}
 use Rattle.scope_rules.specs.Bindings.{Bound, binding, bound, declares_at, is_binding, is_node, node, node_of, plain_binder, same_name, shadower}
 use Rattle.scope_rules.specs.Homes.{declares, declares_plainly, home, is_var, names_function, refers}
 use Rattle.scope_rules.specs.Renamings.{IsBindingOf, KeepsApart, TellsSame, is_bound_inside, is_live_in}
@@ -46,10 +46,10 @@ use Rattle.scope_rules.specs.Renamings.{IsBindingOf, KeepsApart, TellsSame, is_b
 
 
 
-greatest-in : (bs : List Slotted) (d : Slotted) → In d bs → d.slot < number_of_slots bs
+greatest_in : (bs : List Slotted) (d : Slotted) → In d bs → d.slot < number_of_slots bs
 unfolding all_open
-greatest-in [] d i = absurd i
-greatest-in (b ∷ bs) d i = go i (greatest-in bs d)
+greatest_in [] d i = absurd i
+greatest_in (b ∷ bs) d i = go i (greatest_in bs d)
   where
     go : (b ≡ d) ⊎ In d bs → (In d bs → d.slot < number_of_slots bs) → d.slot < max (suc b.slot) (number_of_slots bs)
     go (inl e) ih = let q : b.slot ≡ d.slot = ap (λ (x : Slotted). x.slot) e in omega (arith, q)
@@ -71,7 +71,7 @@ home_rooted t root p i e =
   where
     go : (b : Bool) → cond b p.site.setting.var_scope p.site.setting.scope ≡ [] → same_scope p.site.setting.var_scope [] ≡ false → is_inside p.site.setting.scope p.site.setting.var_scope ≡ true → ⊥
     go true q v w = both_ways _ v (subst (λ (s : Scope). same_scope s [] ≡ true) (sym q) refl)
-    go false q v w = both_ways _ v (subst (λ (s : Scope). same_scope s [] ≡ true) (same-eq [] p.site.setting.var_scope (subst (λ (s : Scope). is_inside s p.site.setting.var_scope ≡ true) q w)) refl)
+    go false q v w = both_ways _ v (subst (λ (s : Scope). same_scope s [] ≡ true) (same_scope_eq [] p.site.setting.var_scope (subst (λ (s : Scope). is_inside s p.site.setting.var_scope ≡ true) q w)) refl)
 
 pub home_inside : (t : Parts) (p : Place) → In p (places t) → is_inside p.site.setting.scope (home p.site) ≡ true
 unfolding all_open
@@ -79,7 +79,7 @@ home_inside t p i = go (is_var p.site.setting.role) (of_each (λ s. is_inside s.
   where
     go : (b : Bool) → is_inside p.site.setting.scope p.site.setting.var_scope ≡ true → is_inside p.site.setting.scope (cond b p.site.setting.var_scope p.site.setting.scope) ≡ true
     go true w = w
-    go false w = inside-refl p.site.setting.scope
+    go false w = inside_refl p.site.setting.scope
 
 home_among : (t : Parts) → IsRooted t → (p : Place) → In p (places t) → list_any (same_scope (home p.site)) (scopes t) ≡ true
 unfolding all_open
@@ -106,12 +106,12 @@ module _ (o : Options) (t : Parts) where
   unfoldable pub member_at : Place → Member
   member_at p = record { place = p; binding = binding same_name (places t) p; group = group_in o t p }
 
-  pub members-at : members o t ≡ map member_at (places t)
+  pub members_at : members o t ≡ map member_at (places t)
   unfolding all_open member_at
-  members-at = map-map (λ (b : Bound Text). record { place = b.place; binding = b.binding; group = group_at kept ps bs b.binding }) (λ (p : Place). record { place = p; binding = binding same_name (places t) p }) (places t)
+  members_at = map-map (λ (b : Bound Text). record { place = b.place; binding = b.binding; group = group_at kept ps bs b.binding }) (λ (p : Place). record { place = p; binding = binding same_name (places t) p }) (places t)
 
-  pub in-members : (p : Place) → In p (places t) → In (member_at p) (members o t)
-  in-members p i = subst (In (member_at p)) (sym members-at) (in_map member_at (places t) p i)
+  pub in_members : (p : Place) → In p (places t) → In (member_at p) (members o t)
+  in_members p i = subst (In (member_at p)) (sym members_at) (in_map member_at (places t) p i)
 
   -- a binding's own record is what is found by its number
   found_own : (b : Place) → Binding b → find (λ c. is_binding c && nat_eq (node c.place) (node b)) bs ≡ Some (record { place = b; binding = binding same_name (places t) b })
@@ -192,10 +192,10 @@ module _ (o : Options) (t : Parts) where
   group_here : Place → Group
   group_here c = record { leader = node c; home = home c.site }
 
-  in-groups : (ss : List Scope) (ms : List Member) (m : Member) → In m ms → leads m ≡ true → list_any (same_scope (home m.place.site)) ss ≡ true → In (group_led_by m) (groups ss ms)
+  in_groups : (ss : List Scope) (ms : List Member) (m : Member) → In m ms → leads m ≡ true → list_any (same_scope (home m.place.site)) ss ≡ true → In (group_led_by m) (groups ss ms)
   unfolding all_open
-  in-groups [] ms m i l a = absurd (both_ways false refl a)
-  in-groups (s ∷ ss) ms m i l a = go (or_cases _ _ a) (in-groups ss ms m i l)
+  in_groups [] ms m i l a = absurd (both_ways false refl a)
+  in_groups (s ∷ ss) ms m i l a = go (or_cases _ _ a) (in_groups ss ms m i l)
     where
       here : List Group
       here = map group_led_by (filter (λ n. same_scope (home n.place.site) s) (filter leads ms))
@@ -206,10 +206,10 @@ module _ (o : Options) (t : Parts) where
           (in_map group_led_by (filter (λ n. same_scope (home n.place.site) s) (filter leads ms)) m (in_filter (λ n. same_scope (home n.place.site) s) (filter leads ms) m (in_filter leads ms m i l) e))
       go (inr e) ih = in_right (map group_led_by (filter (λ n. same_scope (home n.place.site) s) (filter leads ms))) (groups ss ms) (group_led_by m) (ih e)
 
-  pub from-groups : (ss : List Scope) (ms : List Member) (g : Group) → In g (groups ss ms) → (m : Member) × In m ms × (group_led_by m ≡ g)
+  pub from_groups : (ss : List Scope) (ms : List Member) (g : Group) → In g (groups ss ms) → (m : Member) × In m ms × (group_led_by m ≡ g)
   unfolding all_open
-  from-groups [] ms g i = absurd i
-  from-groups (s ∷ ss) ms g i = go (from_append (map group_led_by (filter (λ n. same_scope (home n.place.site) s) (filter leads ms))) (groups ss ms) g i) (from-groups ss ms g)
+  from_groups [] ms g i = absurd i
+  from_groups (s ∷ ss) ms g i = go (from_append (map group_led_by (filter (λ n. same_scope (home n.place.site) s) (filter leads ms))) (groups ss ms) g i) (from_groups ss ms g)
     where
       go : In g (map group_led_by (filter (λ n. same_scope (home n.place.site) s) (filter leads ms))) ⊎ In g (groups ss ms) → (In g (groups ss ms) → (m : Member) × In m ms × (group_led_by m ≡ g)) → (m : Member) × In m ms × (group_led_by m ≡ g)
       go (inl j) ih =
@@ -231,16 +231,16 @@ module _ (o : Options) (t : Parts) where
       let ic : In c.0 (places t) = in_from_Contains (places t) c.0 c.1.is.among in
       let lead : leads (member_at c.0) ≡ true = and_from _ _ (and_from _ _ c.1.is.declares (ap (λ q. is_node q (node c.0)) c.1.is.own ∙ eq-eqb (node c.0) (node c.0) refl))
       (ap (λ q. is_node q (node c.0)) c.1.leading ∙ eq-eqb g (node c.0) (sym c.1.number)) in
-      let i : In (group_here c.0) (groups_of o t) = in-groups (scopes t) (members o t) (member_at c.0) (in-members c.0 ic) lead (home_among t root c.0 ic) in
-      let same : map (λ d. d.group) (slots_of o t) ≡ groups_of o t = slotted-groups (members o t) [] (groups_of o t) in
+      let i : In (group_here c.0) (groups_of o t) = in_groups (scopes t) (members o t) (member_at c.0) (in_members c.0 ic) lead (home_among t root c.0 ic) in
+      let same : map (λ d. d.group) (slots_of o t) ≡ groups_of o t = slotted_groups (members o t) [] (groups_of o t) in
       let w : (d : Slotted) × In d (slots_of o t) × (d.group ≡ group_here c.0) = from_map (λ d. d.group) (slots_of o t) (group_here c.0) (subst (In (group_here c.0)) (sym same) i) in
       told (find (λ d. nat_eq d.group.leader g) (slots_of o t))
       (λ none. absurd (find_none (λ d. nat_eq d.group.leader g) (slots_of o t) w.0 none w.1 (eq-eqb w.0.group.leader g (ap (λ (x : Group). x.leader) w.2 ∙ c.1.number))))
       (λ d f.
       let h : First (λ d. nat_eq d.group.leader g) (slots_of o t) d = find_first (λ d. nat_eq d.group.leader g) (slots_of o t) d f in
       let at : d.group.leader ≡ g = eqb-true d.group.leader g h.passes in
-      let m : (m : Member) × In m (members o t) × (group_led_by m ≡ d.group) = from-groups (scopes t) (members o t) d.group (subst (In d.group) same (in_map (λ d. d.group) (slots_of o t) d h.among)) in
-      let p : (p : Place) × In p (places t) × (member_at p ≡ m.0) = from_map member_at (places t) m.0 (subst (In m.0) members-at m.1) in
+      let m : (m : Member) × In m (members o t) × (group_led_by m ≡ d.group) = from_groups (scopes t) (members o t) d.group (subst (In d.group) same (in_map (λ d. d.group) (slots_of o t) d h.among)) in
+      let p : (p : Place) × In p (places t) × (member_at p ≡ m.0) = from_map member_at (places t) m.0 (subst (In m.0) members_at m.1) in
       let placed : m.0.place ≡ p.0 = sym (ap (λ (x : Member). x.place) p.2) in
       let n : node p.0 ≡ node c.0 = sym (ap node placed) ∙ ap (λ (x : Group). x.leader) m.2 ∙ at ∙ sym c.1.number in
       let q : p.0 ≡ c.0 = one_of_number t p.0 c.0 p.1 ic n in (
@@ -284,7 +284,7 @@ module _ (o : Options) (t : Parts) where
 
     taken_name : (p : Place) → In p (places t) → (declares p.site || refers p.site) ≡ true → group_in o t p ≡ None → is_taken o (members o t) p.name ≡ true
     unfolding all_open member_at
-    taken_name p i v e = or_right _ _ (any_from (λ m. is_unchanged m && same_name m.place.name p.name) (members o t) (member_at p) (in-members p i)
+    taken_name p i v e = or_right _ _ (any_from (λ m. is_unchanged m && same_name m.place.name p.name) (members o t) (member_at p) (in_members p i)
         (and_from _ _ (and_from _ _ v (ap (λ g. not (is_some g)) e)) ((same_name_tells p.name p.name).1 refl)))
 
     not_taken : (p : Place) (k : ℕ) → k < number_of_slots (slots_of o t) → In p (places t) → (declares p.site || refers p.site) ≡ true → group_in o t p ≡ None → name k ≡ p.name → ⊥
@@ -301,7 +301,7 @@ module _ (o : Options) (t : Parts) where
     unfolding all_open by_slot
     called b g ib e =
         let d : (d : Slotted) × Slot b g d = slot_for root b g ib e in
-        record { slotted = d.0; slot = d.1; below = greatest-in (slots_of o t) d.0 d.1.among; called = new_is b (Some d.0.slot) (ap (slot_of (slots_of o t)) e ∙ d.1.found) }
+        record { slotted = d.0; slot = d.1; below = greatest_in (slots_of o t) d.0 d.1.among; called = new_is b (Some d.0.slot) (ap (slot_of (slots_of o t)) e ∙ d.1.found) }
 
     -- a group is live where one of its bindings is
     live_group : (b : Place) (g : ℕ) (d : Slotted) (s : Scope) → Binding b → group_in o t b ≡ Some g → Slot b g d → is_live_in same_name (places t) b s ≡ true → is_live (members o t) s d.group ≡ true
@@ -321,7 +321,7 @@ module _ (o : Options) (t : Parts) where
             let bound_to : binding same_name (places t) w.0 ≡ Some (node b) = node_told (binding same_name (places t) w.0) (node b) three.0 in
             let group : group_in o t w.0 ≡ Some g = ap (group_at kept ps bs) (bound_to ∙ sym ib.own) ∙ e in
             or_right _ _ (and_from _ _ (subst (λ (x : Scope). is_inside s x ≡ true) (sym slot.homed) two.0)
-            (any_from (reaches d.group s) (members o t) (member_at w.0) (in-members w.0 w.1)
+            (any_from (reaches d.group s) (members o t) (member_at w.0) (in_members w.0 w.1)
             (and_from _ _ (ap (λ x. is_node x d.group.leader) group ∙ eq-eqb g d.group.leader (sym slot.leader)) three.1)))
           where
             node_told : (x : Option ℕ) (n : ℕ) → is_node x n ≡ true → x ≡ Some n
@@ -338,7 +338,7 @@ module _ (o : Options) (t : Parts) where
 
     apart : (d e : Slotted) (s : Scope) → In d (slots_of o t) → In e (slots_of o t) → d.slot ≡ e.slot → is_live (members o t) s d.group ≡ true → is_live (members o t) s e.group ≡ true → d ≡ e
     unfolding all_open
-    apart d e s i j same a b = go (one_or_paired (Ordered_apart (members o t)) (slots_of o t) d e (pairs-apart (members o t) (groups_of o t) (groups_in_order o t)) i j)
+    apart d e s i j same a b = go (one_or_paired (Ordered_apart (members o t)) (slots_of o t) d e (pairs_apart (members o t) (groups_of o t) (groups_in_order o t)) i j)
       where
         go : (d ≡ e) ⊎ (Ordered_apart (members o t) d e ⊎ Ordered_apart (members o t) e d) → d ≡ e
         go (inl q) = q
@@ -347,7 +347,7 @@ module _ (o : Options) (t : Parts) where
 
     home_live : (c : Place) (h : ℕ) (e : Slotted) → Slot c h e → is_live (members o t) (home c.site) e.group ≡ true
     unfolding all_open
-    home_live c h e slot = or_left _ _ (subst (λ (x : Scope). same_scope (home c.site) x ≡ true) (sym slot.homed) (same-refl (home c.site)))
+    home_live c h e slot = or_left _ _ (subst (λ (x : Scope). same_scope (home c.site) x ≡ true) (sym slot.homed) (same_scope_refl (home c.site)))
 
     no_new_equality : (b c : Place) → Binding b → Binding c → is_live_in same_name (places t) b (home c.site) ≡ true → new b ≡ new c → b.name ≡ c.name
     unfolding all_open by_slot
@@ -394,7 +394,7 @@ module _ (o : Options) (t : Parts) where
           slotted = d.0;
           among = d.1.among;
           found = d.1.found;
-          below = greatest-in (slots_of o t) d.0 d.1.among;
+          below = greatest_in (slots_of o t) d.0 d.1.among;
           called = new_is p (Some d.0.slot) (ap (slot_of (slots_of o t)) e ∙ d.1.found);
         })
 
