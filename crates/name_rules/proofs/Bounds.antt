@@ -1,34 +1,16 @@
 -- How far the candidates are asked: each that is passed over is a forbidden name, and they are all different.
-use Rattle.std.specs.Prelude.{◌≡◌, ◌⊎◌, ◌≤◌, ◌<◌, ℕ, zero, suc, ◌+◌, ◌^◌, Bool, true, false, cond, not, ◌||◌, ◌&&◌, nat_eq, List, [], ◌∷◌, ◌++◌, length, map, filter, get_or, is_some, Option, Some, None}
 use Rattle.std.specs.List.{list_any}
+use Rattle.std.specs.Prelude.{◌≡◌, ◌⊎◌, ◌≤◌, ◌<◌, ℕ, zero, suc, ◌+◌, ◌^◌, Bool, true, false, cond, not, ◌||◌, ◌&&◌, nat_eq, List, [], ◌∷◌, ◌++◌, length, map, filter, get_or, is_some, Option, Some, None}
 use Rattle.std.proofs.Common.{refl, sym, ap, ◌∙◌, subst, arith, inl, inr}
 use Rattle.std.proofs.lemmas.Bool.{or_cases, and_parts, both_ways, eq-eqb, eqb-true}
 use Rattle.std.proofs.lemmas.List.{length-append, length-map, length-reverse}
-use Rattle.name_rules.proofs.Greatest.{greatest_at_most}
-use Rattle.name_rules.proofs.CountFrom.{count_length}
-use Rattle.list_laws.proofs.Filtered.{filter_most, two_filters_most}
-use Rattle.list_laws.proofs.AnyOf.{any_some}
-use Rattle.list_laws.proofs.PairsOf.{different_map}
-use Rattle.scope_rules.proofs.SameNames.{same_name_tells, among_in, in_distinct, distinct_after_most}
-use Rattle.scope_rules.proofs.PlacesRise.{one_of_number}
-use Rattle.syntax_lex.specs.Keyword.{is_reserved_keyword, reserved_keywords}
-use Rattle.list_laws.proofs.Counting.{no_more}
-use Rattle.name_rules.proofs.SlotNamesKeepApart.{members_at}
-use Rattle.name_rules.proofs.Mangling.{from_leading}
-use Rattle.name_rules.proofs.GroupsInOrder.{slots_are_fewest}
-use Rattle.name_rules.proofs.Rivals.{Led, groups_differ, led}
 use Rattle.list_laws.proofs.AllOf.{of_each}
-use Rattle.name_rules.proofs.GivenNamesFit.{slot_names_in}
-use Rattle.name_rules.proofs.FirstUntaken.{candidate_one, free_different, free_names_length, passed, passed_different, passed_taken}
-use Rattle.name_rules.specs.Bounds.{BoundIsSmall, NamesAreBounded, forbidden}
-use Rattle.name_rules.specs.FreeNames.{first_untaken, is_taken, is_unchanged, is_variable}
-use Rattle.name_rules.specs.GivenNames.{count_from, free_names, names_of_slots, slot_names}
-use Rattle.name_rules.specs.Groups.{Group, Member, greatest_width, group_led_by, groups_of, is_live, leads, members, width}
-use Rattle.name_rules.specs.Kept.{is_reserved, name_arguments}
-use Rattle.name_rules.specs.Open.{all_open}
-use Rattle.name_rules.specs.Options.{Options}
-use Rattle.name_rules.specs.ShortNames.{candidate}
-use Rattle.name_rules.specs.Slots.{number_of_slots, slots_of, weight}
+use Rattle.list_laws.proofs.AnyOf.{any_some}
+use Rattle.list_laws.proofs.Counting.{no_more}
+use Rattle.list_laws.proofs.Filtered.{filter_most, two_filters_most}
+use Rattle.list_laws.proofs.Members.{In, in_from_Contains, from_map, in_filter, in_left, in_map, in_right, found_at}
+use Rattle.list_laws.proofs.PairsOf.{different_map}
+use Rattle.syntax_lex.specs.Keyword.{is_reserved_keyword, reserved_keywords}
 use Rattle.tree_nodes.specs.Along.{Along, all, each, first_column, other_columns}
 use Rattle.tree_nodes.specs.Table.{row, unlisted}
 use Rattle.tree_nodes.specs.Tree.{Parts, Text, atom, child, done, many}
@@ -38,11 +20,29 @@ use Rattle.tree_places.proofs.Numbers.{Numbered, walk_numbered}
 use Rattle.tree_places.specs.Lineage.{count_nodes}
 use Rattle.tree_places.specs.Places.{Around, Place, Seen, Setting, Site, at_field, before_all, enter, hide, met, named_by, names, nothing_yet, places, seen, sites, walk}
 use Rattle.tree_places.specs.Scopes.{Scope}
-use Rattle.list_laws.proofs.Members.{In, in_from_Contains, from_map, in_filter, in_left, in_map, in_right, found_at}
+use Rattle.scope_rules.proofs.PlacesRise.{one_of_number}
+use Rattle.scope_rules.proofs.SameNames.{same_name_tells, among_in, in_distinct, distinct_after_most}
 use Rattle.scope_rules.specs.Bindings.{is_node, node, same_name}
 use Rattle.scope_rules.specs.Evals.{name_eval}
-use Rattle.scope_rules.specs.PrivateNames.{distinct, distinct_after, is_among}
 use Rattle.scope_rules.specs.Homes.{home}
+use Rattle.scope_rules.specs.PrivateNames.{distinct}
+use Rattle.name_rules.proofs.CountFrom.{count_length}
+use Rattle.name_rules.proofs.FirstUntaken.{candidate_one, free_different, free_names_length, passed, passed_different, passed_taken}
+use Rattle.name_rules.proofs.GivenNamesFit.{slot_names_in}
+use Rattle.name_rules.proofs.Greatest.{greatest_at_most}
+use Rattle.name_rules.proofs.GroupsInOrder.{slots_are_fewest}
+use Rattle.name_rules.proofs.Mangling.{from_leading}
+use Rattle.name_rules.proofs.Rivals.{Led, groups_differ, led}
+use Rattle.name_rules.proofs.SlotNamesKeepApart.{members_at}
+use Rattle.name_rules.specs.Bounds.{BoundIsSmall, NamesAreBounded, forbidden}
+use Rattle.name_rules.specs.FreeNames.{first_untaken, is_taken, is_unchanged, is_variable}
+use Rattle.name_rules.specs.GivenNames.{count_from, free_names, names_of_slots, slot_names}
+use Rattle.name_rules.specs.Groups.{Group, Member, greatest_width, group_led_by, groups_of, is_live, leads, members, width}
+use Rattle.name_rules.specs.Kept.{is_reserved, name_arguments}
+use Rattle.name_rules.specs.Open.{all_open}
+use Rattle.name_rules.specs.Options.{Options}
+use Rattle.name_rules.specs.ShortNames.{candidate}
+use Rattle.name_rules.specs.Slots.{number_of_slots, slots_of, weight}
 
 -- ---- what is taken is forbidden
 
@@ -110,7 +110,6 @@ module _ (name : ℕ → Text) (one : (m n : ℕ) → name m ≡ name n → m �
           let b : r.number < suc k + n + length (passed name one taken fuel n (suc k)) = r.below in
           record { number = r.number; is = r.is; from = omega (arith, a); below = omega (arith, b) }
 
-
 -- a name that a slot gets is free
 pub name_free : (o : Options) (t : Parts) (x : Text) → In x (names_of_slots o t) → In x (free_names o (members o t) (number_of_slots (slots_of o t)))
 unfolding all_open
@@ -142,9 +141,6 @@ names_are_bounded o t x c =
     (r.number, r.is, number_is_within r.number n (length over) (length (distinct (forbidden o ms))) b few)
 
 -- ---- how many
-
-
-
 
 in_all : (d f k r l n m : ℕ) → d ≤ f → f ≡ k + r → k ≡ 46 → r ≡ suc (suc l) → l ≡ n + m → d ≤ 48 + n + m
 in_all d f k r l n m a b c e g = omega (arith, a, b, c, e, g)

@@ -1,17 +1,17 @@
 -- The numbers of `count_from`: how many they are, that they differ, where each stands, and that a list with all of them is as long.
-use Rattle.std.specs.Prelude.{◌≡◌, ◌⊎◌, ℕ, zero, suc, ◌+◌, ◌≤◌, ◌<◌, true, List, [], ◌∷◌, eqb, length, map, get_or}
 use Rattle.std.specs.Cmp.{nat_eq_equiv}
 use Rattle.std.specs.List.{list_any}
-use Rattle.std.proofs.Common.{refl, sym, ap, ◌∙◌, subst, arith, inl, inr}
+use Rattle.std.specs.Prelude.{◌≡◌, ◌⊎◌, ℕ, zero, suc, ◌+◌, ◌≤◌, ◌<◌, true, List, [], ◌∷◌, eqb, length, map, get_or}
+use Rattle.std.proofs.Common.{refl, ap, ◌∙◌, subst, arith, inl, inr}
 use Rattle.std.proofs.lemmas.Bool.{or_cases, both_ways, eqb-true}
 use Rattle.std.proofs.lemmas.List.{length-map}
 use Rattle.std.proofs.lemmas.Map.Made.{length-le_from_is_member}
-use Rattle.list_laws.proofs.AllOf.{AllOf, AllOf_weaken}
+use Rattle.list_laws.proofs.AllOf.{AllOf}
 use Rattle.list_laws.proofs.Counting.{distinct_told, numbers_told}
 use Rattle.list_laws.proofs.Members.{In}
 use Rattle.list_laws.proofs.PairsOf.{PairsOf}
-use Rattle.name_rules.specs.GivenNames.{count_from, slot_names}
 use Rattle.tree_nodes.specs.Tree.{Text}
+use Rattle.name_rules.specs.GivenNames.{count_from, slot_names}
 use Rattle.name_rules.specs.Open.{all_open}
 
 pub count_above : (n k : ℕ) → AllOf (λ y. k ≤ y) (count_from n k)

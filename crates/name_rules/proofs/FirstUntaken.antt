@@ -1,16 +1,20 @@
 -- The first candidates that aren't taken: they are all different, and there are enough of them.
-use Rattle.std.specs.Prelude.{nat_eq, take, get_or, ◌≡◌, ◌⊎◌, ◌≤◌, ◌<◌, ℕ, zero, suc, ◌+◌, ◌*◌, ◌-◌, ◌/◌, ◌%◌, Bool, true, false, cond, ◌||◌, ◌&&◌, nat_lt, List, [], ◌∷◌, ◌++◌, length, map}
 use Rattle.std.specs.List.{list_all, list_any}
+use Rattle.std.specs.Prelude.{nat_eq, take, get_or, ◌≡◌, ◌⊎◌, ◌≤◌, ◌<◌, ℕ, zero, suc, ◌+◌, ◌*◌, ◌-◌, ◌/◌, ◌%◌, Bool, true, false, cond, ◌||◌, ◌&&◌, nat_lt, List, [], ◌∷◌, ◌++◌, length, map}
 use Rattle.std.proofs.Common.{refl, sym, ap, ◌∙◌, subst, arith, inl, inr}
 use Rattle.std.proofs.lemmas.Bool.{agree_below_at, or_cases, and_from, and_parts, both_ways}
 use Rattle.std.proofs.lemmas.List.{length-append, length-map}
+use Rattle.list_laws.proofs.AllOf.{AllOf, of_each}
 use Rattle.list_laws.proofs.AnyOf.{any_some}
-use Rattle.list_laws.proofs.PairsOf.{PairsOf}
-use Rattle.scope_rules.proofs.SameNames.{same_name_tells, among_in}
-use Rattle.syntax_lex.specs.Keyword.{is_reserved_keyword, reserved_keywords}
 use Rattle.list_laws.proofs.Counting.{no_more}
+use Rattle.list_laws.proofs.Members.{In, in_left, in_map, in_right}
+use Rattle.list_laws.proofs.PairsOf.{PairsOf}
+use Rattle.syntax_lex.specs.Keyword.{is_reserved_keyword, reserved_keywords}
+use Rattle.tree_nodes.specs.Tree.{Text}
+use Rattle.scope_rules.proofs.SameNames.{same_name_tells, among_in}
+use Rattle.scope_rules.specs.Bindings.{same_name}
+use Rattle.scope_rules.specs.Evals.{name_eval}
 use Rattle.name_rules.proofs.ShortNumbers.{short_is_one_to_one}
-use Rattle.list_laws.proofs.AllOf.{of_each}
 use Rattle.name_rules.specs.FreeNames.{first_untaken, is_spelled, is_taken, is_unchanged}
 use Rattle.name_rules.specs.GivenNames.{free_names}
 use Rattle.name_rules.specs.Groups.{Member}
@@ -18,11 +22,6 @@ use Rattle.name_rules.specs.Kept.{is_reserved, name_arguments}
 use Rattle.name_rules.specs.Open.{all_open}
 use Rattle.name_rules.specs.Options.{Options}
 use Rattle.name_rules.specs.ShortNames.{candidate, characters, digits_onto, more_characters, readable_name}
-use Rattle.tree_nodes.specs.Tree.{Text}
-use Rattle.list_laws.proofs.AllOf.{AllOf}
-use Rattle.list_laws.proofs.Members.{In, in_left, in_map, in_right}
-use Rattle.scope_rules.specs.Bindings.{same_name}
-use Rattle.scope_rules.specs.Evals.{name_eval}
 
 -- ---- no two numbers have one candidate
 

@@ -2,9 +2,14 @@
 use Rattle.std.specs.Prelude.{◌≡◌, ℕ, List, [], ◌∷◌, map, get_or}
 use Rattle.std.proofs.Common.{refl, ap, ◌∙◌}
 use Rattle.std.proofs.lemmas.Simd.{map-map}
+use Rattle.tree_nodes.specs.Tree.{Parts, Text}
+use Rattle.tree_places.specs.Places.{Place, Site, named_by, names, places, sites, withs}
+use Rattle.scope_rules.proofs.BindingsStay.{bindings_stay}
 use Rattle.scope_rules.proofs.SameNames.{same_name_tells}
-use Rattle.name_rules.proofs.SlotNamesKeepApart.{keeps_apart}
+use Rattle.scope_rules.specs.Bindings.{Bound, binding, bindings, bound, same_name}
+use Rattle.scope_rules.specs.Renamings.{under}
 use Rattle.name_rules.proofs.GivenNamesFit.{given_names_fit}
+use Rattle.name_rules.proofs.SlotNamesKeepApart.{keeps_apart}
 use Rattle.name_rules.specs.GivenNames.{given_names, names_of_slots, new_name}
 use Rattle.name_rules.specs.Groups.{group_at}
 use Rattle.name_rules.specs.Kept.{kept_alone}
@@ -12,11 +17,6 @@ use Rattle.name_rules.specs.Open.{all_open}
 use Rattle.name_rules.specs.Options.{Options}
 use Rattle.name_rules.specs.SlotNames.{GivenNamesKeepBindings, group_in, named_by_slot}
 use Rattle.name_rules.specs.Slots.{slots_of}
-use Rattle.tree_nodes.specs.Tree.{Parts, Text}
-use Rattle.tree_places.specs.Places.{Place, Site, named_by, names, places, sites, withs}
-use Rattle.scope_rules.proofs.BindingsStay.{bindings_stay}
-use Rattle.scope_rules.specs.Bindings.{Bound, binding, bindings, bound, same_name}
-use Rattle.scope_rules.specs.Renamings.{under}
 
 -- sites under the names that their places get are the places under these names
 pub named_under : (f : Place → Text) (ss : List Site) (xs : List Text) → named_by ss (map f (named_by ss xs)) ≡ map (under f) (named_by ss xs)

@@ -1,30 +1,27 @@
 -- The groups of a tree stand in order, so its slots are as many as its greatest width.
-use Rattle.std.specs.Prelude.{◌≡◌, ◌⊎◌, ℕ, suc, ◌<◌, Bool, true, false, cond, List, [], ◌∷◌, ◌++◌, length, map, filter, reverse}
 use Rattle.std.specs.List.{AllPairs, Contains, list_any, flat_map}
+use Rattle.std.specs.Prelude.{◌≡◌, ◌⊎◌, ℕ, suc, ◌<◌, Bool, true, false, cond, List, [], ◌∷◌, ◌++◌, length, map, filter}
 use Rattle.std.proofs.Common.{refl, sym, ◌∙◌, subst, arith, inl, inr}
 use Rattle.std.proofs.lemmas.Bool.{or_cases, or_left, or_right, both_ways}
-use Rattle.std.proofs.lemmas.Grind.{reverse_onto}
 use Rattle.std.proofs.lemmas.List.{append_assoc}
+use Rattle.list_laws.proofs.AllOf.{AllOf, AllOf_append, AllOf_weaken, of_each}
+use Rattle.list_laws.proofs.Members.{in_from_Contains}
 use Rattle.list_laws.proofs.PairsOf.{PairsOf, PairsOf_weaken, pairs_by_place, PairsOf_append, PairsOf_reverse}
-use Rattle.name_rules.specs.Open.{all_open}
+use Rattle.tree_nodes.specs.Tree.{Parts}
+use Rattle.tree_places.proofs.Outwards.{same_scope_eq, same_scope_refl}
+use Rattle.tree_places.proofs.Rising.{tree_good}
+use Rattle.tree_places.proofs.Walks.{Proper, known}
+use Rattle.tree_places.specs.Places.{scopes, seen}
+use Rattle.tree_places.specs.Scopes.{Scope, is_inside, same_scope}
+use Rattle.scope_rules.specs.Bindings.{node}
+use Rattle.scope_rules.specs.Homes.{home}
 use Rattle.name_rules.proofs.GroupsStandApart.{In_order, never_together}
 use Rattle.name_rules.proofs.SlotsAreFewest.{Ordered_apart, last_width, pairs_apart, slots_fewest}
-use Rattle.name_rules.specs.Options.{Options}
-use Rattle.list_laws.proofs.AllOf.{AllOf, AllOf_push, AllOf_append, AllOf_weaken}
 use Rattle.name_rules.specs.Groups.{Group, Member, greatest_width, groups, groups_of, leads, members, width}
-use Rattle.tree_nodes.specs.Tree.{Parts}
-use Rattle.tree_places.proofs.Walks.{Proper, known}
-use Rattle.tree_places.specs.Scopes.{Scope, is_inside, same_scope}
-use Rattle.tree_places.specs.Places.{scopes, seen}
-use Rattle.scope_rules.specs.Homes.{home}
-use Rattle.scope_rules.specs.Bindings.{node}
-use Rattle.name_rules.specs.Slots.{Slotted, number_of_slots, slots_of}
-use Rattle.tree_places.proofs.Outwards.{same_scope_eq, same_scope_refl}
 use Rattle.name_rules.specs.Laws.{Apart}
-use Rattle.list_laws.proofs.AllOf.{of_each}
-use Rattle.list_laws.proofs.Members.{in_from_Contains}
-use Rattle.tree_places.proofs.Rising.{tree_good}
-
+use Rattle.name_rules.specs.Open.{all_open}
+use Rattle.name_rules.specs.Options.{Options}
+use Rattle.name_rules.specs.Slots.{Slotted, number_of_slots, slots_of}
 
 -- numbers below a bound
 abbrev Below : ℕ → Scope → Type 0
@@ -80,10 +77,6 @@ no_scope_inside_later (s ∷ ss) (outer, e, k, p) = (
       ss (proper_below ss p),
   no_scope_inside_later ss p,
 )
-
-
-
-
 
 -- the groups whose home is s
 abbrev at_scope : List Member → Scope → List Group

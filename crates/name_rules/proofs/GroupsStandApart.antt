@@ -1,17 +1,17 @@
 -- Two groups of one slot are never live in one scope.
-use Rattle.std.specs.Prelude.{◌≡◌, ◌⊎◌, ℕ, zero, suc, ◌+◌, ◌<◌, Bool, true, false, cond, ◌&&◌, List, [], ◌∷◌, ◌++◌, nat_eq, map, filter}
 use Rattle.std.specs.List.{list_any}
+use Rattle.std.specs.Prelude.{◌≡◌, ◌⊎◌, ℕ, zero, suc, ◌+◌, ◌<◌, Bool, true, false, cond, ◌&&◌, List, [], ◌∷◌, ◌++◌, nat_eq, map, filter}
 use Rattle.std.proofs.Common.{refl, sym, subst, arith, inl, inr}
 use Rattle.std.proofs.lemmas.Bool.{or_cases, or_left, or_right, or_parts, and_parts, and_from, both_ways, eq-eqb, ne_eqb}
+use Rattle.list_laws.proofs.AllOf.{AllOf}
 use Rattle.list_laws.proofs.AnyOf.{any_weaken}
 use Rattle.list_laws.proofs.PairsOf.{PairsOf, PairsOf_push}
-use Rattle.name_rules.specs.Open.{all_open}
-use Rattle.list_laws.proofs.AllOf.{AllOf}
 use Rattle.tree_places.proofs.Outwards.{chain, inside_antisym, inside_refl, inside_trans, same_scope_eq}
-use Rattle.name_rules.specs.Groups.{Group, Member, greatest, is_live, reaches}
 use Rattle.tree_places.specs.Scopes.{Scope, is_inside, same_scope}
-use Rattle.name_rules.specs.Slots.{Slotted, least_missing, slot_after, slots_after}
 use Rattle.scope_rules.specs.Bindings.{is_node}
+use Rattle.name_rules.specs.Groups.{Group, Member, greatest, is_live, reaches}
+use Rattle.name_rules.specs.Open.{all_open}
+use Rattle.name_rules.specs.Slots.{Slotted, least_missing, slot_after, slots_after}
 
 -- ---- the least number that isn't listed
 

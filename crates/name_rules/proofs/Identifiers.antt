@@ -1,15 +1,14 @@
 -- Short names are identifier names.
-use Rattle.std.specs.Prelude.{◌≡◌, ◌<◌, ℕ, zero, suc, ◌/◌, ◌%◌, Bool, true, ◌&&◌, [], ◌∷◌, get_or}
+use Rattle.std.specs.Prelude.{◌≡◌, ◌<◌, ℕ, zero, suc, ◌/◌, ◌%◌, Bool, true, ◌&&◌, get_or}
 use Rattle.std.specs.List.{list_all}
-use Rattle.std.proofs.Common.{refl, sym, ap, ◌∙◌, arith, IsAscii}
+use Rattle.std.proofs.Common.{refl, ap, ◌∙◌, arith, IsAscii}
 use Rattle.std.proofs.lemmas.Bool.{agree_below_at}
 use Rattle.std.proofs.lemmas.Str.{chars-IsAscii}
 use Rattle.name_rules.proofs.Characters.{character_ascii}
 use Rattle.name_rules.specs.NameCharacters.{ShortNamesAreIdentifiers}
 use Rattle.name_rules.specs.Open.{all_open}
 use Rattle.name_rules.specs.ShortNames.{characters, more_characters, short}
-use Rattle.syntax_lex.specs.Identifier.{are_identifier_characters, is_identifier_name, is_identifier_part, is_identifier_start}
-use Rattle.tree_nodes.specs.Tree.{Text}
+use Rattle.syntax_lex.specs.Identifier.{are_identifier_characters, is_identifier_part, is_identifier_start}
 
 starts : (k : ℕ) → k < 54 → is_identifier_start (get_or characters k 0) ≡ true
 starts k h = agree_below_at (λ n. is_identifier_start (get_or characters n 0)) (λ n. true) 54 k refl h

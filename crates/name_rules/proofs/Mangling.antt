@@ -1,25 +1,38 @@
 -- A tree under its new names is mangled, and as sound as it was.
-use Rattle.std.specs.Prelude.{◌≡◌, ◌⊎◌, ◌≤◌, ◌<◌, ℕ, ◌+◌, Bool, true, false, cond, not, ◌||◌, List, [], ◌∷◌, length, map, filter, get_or, Option, Some, None, is_some}
 use Rattle.std.specs.List.{list_all}
+use Rattle.std.specs.Prelude.{◌≡◌, ◌⊎◌, ◌≤◌, ◌<◌, ℕ, ◌+◌, Bool, true, false, cond, not, ◌||◌, List, [], ◌∷◌, length, map, filter, get_or, Option, Some, None, is_some}
 use Rattle.std.proofs.Common.{refl, sym, ap, ◌∙◌, subst, arith, inl, inr}
 use Rattle.std.proofs.lemmas.Bool.{or_cases, or_left, or_right, and_parts, and_from, both_ways, eqb-true}
 use Rattle.std.proofs.lemmas.List.{length-map}
-use Rattle.name_rules.proofs.CountFrom.{count_apart, count_length, from_count}
+use Rattle.list_laws.proofs.AllOf.{AllOf, of_each}
 use Rattle.list_laws.proofs.AnyOf.{all_map}
-use Rattle.list_laws.proofs.Tests.{tested, told}
-use Rattle.list_laws.proofs.PairsOf.{different_map, PairsOf}
-use Rattle.scope_rules.proofs.SameNames.{same_name_tells, among_in, from_distinct, in_among, to_distinct}
-use Rattle.scope_rules.proofs.PlacesRise.{one_of_number}
 use Rattle.list_laws.proofs.Counting.{no_more}
-use Rattle.name_rules.proofs.SlotsAreFewest.{slotted_groups}
-use Rattle.name_rules.proofs.SlotNamesKeepApart.{Placed, home_inside, keeps_apart, kept_name, member_at, members_at, placed}
+use Rattle.list_laws.proofs.Members.{In, in_from_Contains, from_append, from_filter, from_map, in_map}
+use Rattle.list_laws.proofs.PairsOf.{different_map, PairsOf}
+use Rattle.list_laws.proofs.Tests.{tested, told}
+use Rattle.tree_nodes.specs.Tree.{Parts, Text}
+use Rattle.tree_places.proofs.Blind.{sites_renamed}
+use Rattle.tree_places.specs.Places.{Place, Site, named_by, names, places, scopes, sites, withs}
+use Rattle.tree_places.specs.Scopes.{Scope, same_scope}
+use Rattle.scope_rules.proofs.BindingsStay.{binding_source, bindings_stay}
+use Rattle.scope_rules.proofs.NoNewFaults.{faults_are_never_new}
+use Rattle.scope_rules.proofs.PlacesRise.{one_of_number}
+use Rattle.scope_rules.proofs.SameNames.{same_name_tells, among_in, from_distinct, in_among, to_distinct}
+use Rattle.scope_rules.specs.Bindings.{binding, bindings, bound, is_node, node, same_name}
+use Rattle.scope_rules.specs.Evals.{is_open}
+use Rattle.scope_rules.specs.Faults.{has_fault, has_undeclared}
+use Rattle.scope_rules.specs.Homes.{declares, home, refers}
+use Rattle.scope_rules.specs.PrivateNames.{declaring_class, distinct, distinct_after, is_among, private_bindings, private_names}
+use Rattle.scope_rules.specs.Renamings.{IsBindingOf, KeepsApart, NoNewFault, all_under, under}
+use Rattle.name_rules.proofs.CountFrom.{count_apart, count_length, from_count}
+use Rattle.name_rules.proofs.FirstUntaken.{free_spelled}
+use Rattle.name_rules.proofs.GivenNamesFit.{given_name_in, given_names_fit}
+use Rattle.name_rules.proofs.GivenNamesKeepBindings.{given_by_slot, named_under}
 use Rattle.name_rules.proofs.GroupsInOrder.{slots_are_fewest}
 use Rattle.name_rules.proofs.PrivateChains.{private_names_keep_bindings}
-use Rattle.name_rules.proofs.GivenNamesKeepBindings.{given_by_slot, named_under}
-use Rattle.list_laws.proofs.AllOf.{of_each}
 use Rattle.name_rules.proofs.Ranks.{in_count}
-use Rattle.name_rules.proofs.GivenNamesFit.{given_name_in, given_names_fit}
-use Rattle.name_rules.proofs.FirstUntaken.{free_spelled}
+use Rattle.name_rules.proofs.SlotNamesKeepApart.{Placed, home_inside, keeps_apart, kept_name, member_at, members_at, placed}
+use Rattle.name_rules.proofs.SlotsAreFewest.{slotted_groups}
 use Rattle.name_rules.proofs.SlotsAreUsed.{slot_found, slot_used}
 use Rattle.name_rules.specs.FreeNames.{is_free, is_spelled, is_taken, is_unchanged}
 use Rattle.name_rules.specs.GivenNames.{count_from, free_names, names_of_slots}
@@ -30,24 +43,9 @@ use Rattle.name_rules.specs.MangledLaws.{HasNewNames}
 use Rattle.name_rules.specs.Open.{all_open}
 use Rattle.name_rules.specs.Options.{Options}
 use Rattle.name_rules.specs.PrivateNumbers.{index_of, is_of_open_class, new_private_name, number_in, private_number, with_private}
+use Rattle.name_rules.specs.ShortNames.{short}
 use Rattle.name_rules.specs.SlotNames.{group_in, named_by_slot}
 use Rattle.name_rules.specs.Slots.{Slotted, number_of_slots, slot_of, slots_of}
-use Rattle.tree_nodes.specs.Tree.{Parts, Text}
-use Rattle.tree_places.proofs.Blind.{sites_renamed}
-use Rattle.list_laws.proofs.AllOf.{AllOf}
-use Rattle.tree_places.specs.Places.{Place, Site, named_by, names, places, scopes, sites, withs}
-use Rattle.tree_places.specs.Scopes.{Scope, same_scope}
-use Rattle.name_rules.specs.ShortNames.{short}
-use Rattle.scope_rules.specs.Homes.{home}
-use Rattle.scope_rules.proofs.NoNewFaults.{faults_are_never_new}
-use Rattle.list_laws.proofs.Members.{In, in_from_Contains, from_append, from_filter, from_map, in_map}
-use Rattle.scope_rules.proofs.BindingsStay.{binding_source, bindings_stay}
-use Rattle.scope_rules.specs.Bindings.{binding, bindings, bound, is_node, node, same_name}
-use Rattle.scope_rules.specs.Evals.{is_open}
-use Rattle.scope_rules.specs.Faults.{has_fault, has_undeclared}
-use Rattle.scope_rules.specs.Homes.{declares, refers}
-use Rattle.scope_rules.specs.PrivateNames.{declaring_class, distinct, distinct_after, is_among, private_bindings, private_names}
-use Rattle.scope_rules.specs.Renamings.{IsBindingOf, KeepsApart, NoNewFault, all_under, under}
 
 -- ---- lists
 
@@ -63,7 +61,6 @@ one_from v (x ∷ xs) a = go xs a.1
     go : (ys : List Text) → AllOf (λ y. y ≡ v) ys → list_all (same_name x) ys ≡ true
     go [] b = refl
     go (y ∷ ys) b = and_from _ _ ((same_name_tells x y).1 (a.0 ∙ sym b.0)) (go ys b.1)
-
 
 -- the names under `new` of the places whose member passes
 where_all : (f : Place → Member) (new : Place → Text) (test : Member → Bool) (P : Text → Type 0) (ps : List Place) → ((p : Place) → In p ps → test (f p) ≡ true → P (new p)) → AllOf P (names_where test (map f ps) (map (under new) ps))

@@ -2,20 +2,18 @@
 use Rattle.std.specs.Prelude.{◌≡◌, ◌⊎◌, ◌≤◌, ℕ, zero, suc, ◌+◌, Bool, true, false, cond, List, [], ◌∷◌, length, map}
 use Rattle.std.proofs.Common.{refl, sym, ap, ◌∙◌, subst, arith, inl, inr}
 use Rattle.std.proofs.lemmas.List.{length-map}
-use Rattle.list_laws.proofs.PairsOf.{PairsOf}
-use Rattle.scope_rules.proofs.SameNames.{same_name_tells, among_in}
+use Rattle.list_laws.proofs.AllOf.{AllOf, of_each}
 use Rattle.list_laws.proofs.Counting.{no_more}
+use Rattle.list_laws.proofs.Members.{In, from_map}
+use Rattle.list_laws.proofs.PairsOf.{PairsOf}
+use Rattle.tree_nodes.specs.Tree.{Text}
+use Rattle.scope_rules.proofs.SameNames.{same_name_tells, among_in}
+use Rattle.scope_rules.specs.Bindings.{same_name}
+use Rattle.scope_rules.specs.PrivateNames.{is_among}
 use Rattle.name_rules.proofs.ShortNumbers.{short_is_one_to_one}
-use Rattle.list_laws.proofs.AllOf.{of_each}
 use Rattle.name_rules.specs.Open.{all_open}
 use Rattle.name_rules.specs.PrivateNumbers.{nth_unlisted}
 use Rattle.name_rules.specs.ShortNames.{short}
-use Rattle.tree_nodes.specs.Tree.{Text}
-use Rattle.list_laws.proofs.AllOf.{AllOf}
-use Rattle.list_laws.proofs.Members.{In, from_map}
-use Rattle.scope_rules.specs.Bindings.{same_name}
-use Rattle.scope_rules.specs.PrivateNames.{is_among}
-
 
 module _ (listed : List Text) where
   -- the numbers that are passed over

@@ -1,40 +1,37 @@
 -- Private names along a chain of class bodies, and what each new one is bound to.
-use Rattle.std.specs.Prelude.{◌≡◌, ◌⊎◌, ◌≤◌, ◌<◌, ℕ, suc, ◌+◌, Bool, true, false, cond, not, ◌||◌, ◌&&◌, nat_eq, List, [], ◌∷◌, ◌++◌, length, map, filter, find, sum, Option, Some, None, is_some}
 use Rattle.std.specs.List.{flat_map, list_any}
+use Rattle.std.specs.Prelude.{◌≡◌, ◌⊎◌, ◌≤◌, ◌<◌, ℕ, suc, ◌+◌, Bool, true, false, cond, not, ◌||◌, ◌&&◌, nat_eq, List, [], ◌∷◌, ◌++◌, length, map, filter, find, sum, Option, Some, None, is_some}
 use Rattle.std.proofs.Common.{refl, sym, ap, ◌∙◌, subst, arith, inl, inr}
 use Rattle.std.proofs.lemmas.Bool.{or_cases, or_left, or_right, and_parts, and_from, both_ways, eq-eqb, eqb-true}
 use Rattle.std.proofs.lemmas.List.Sums.{sum_by-cons}
 use Rattle.std.proofs.lemmas.Simd.{map-map}
-use Rattle.list_laws.proofs.Tests.{none_some, tested, told}
-use Rattle.list_laws.proofs.Mapped.{map_same}
+use Rattle.list_laws.proofs.AllOf.{of_each}
 use Rattle.list_laws.proofs.AnyOf.{any_from, any_some}
 use Rattle.list_laws.proofs.FirstOf.{First, find_first, find_map, find_none, find_same_first}
-use Rattle.scope_rules.proofs.SameNames.{same_name_tells, among_in, from_distinct, in_among, to_distinct}
-use Rattle.scope_rules.proofs.PlacesRise.{named_site}
-use Rattle.name_rules.proofs.ShortNumbers.{short_is_one_to_one}
-use Rattle.name_rules.proofs.NthUnlisted.{nth, nth_is_one_to_one, nth_is_unlisted}
-use Rattle.list_laws.proofs.AllOf.{of_each}
-use Rattle.name_rules.specs.Open.{all_open}
-use Rattle.name_rules.specs.PrivateLaws.{IsClosedAround}
-use Rattle.name_rules.specs.PrivateNumbers.{closed_count, index_of, new_private_name, number_in, open_names, private_number}
-use Rattle.name_rules.specs.ShortNames.{short}
+use Rattle.list_laws.proofs.Mapped.{map_same}
+use Rattle.list_laws.proofs.Members.{In, from_filter, from_map, in_filter, in_left, in_map, in_right}
+use Rattle.list_laws.proofs.Tests.{none_some, tested, told}
 use Rattle.tree_nodes.specs.Tree.{Parts, Text}
 use Rattle.tree_places.proofs.Linked.{class_chains, one_outside}
 use Rattle.tree_places.proofs.Outwards.{chain, inside_parent, inside_refl, inside_trans, same_scope_eq, same_scope_refl}
 use Rattle.tree_places.proofs.Walks.{known}
 use Rattle.tree_places.specs.Places.{Place, names, places, sites}
 use Rattle.tree_places.specs.Scopes.{Scope, is_inside, same_scope}
-use Rattle.list_laws.proofs.Members.{In, from_filter, from_map, in_filter, in_left, in_map, in_right}
+use Rattle.scope_rules.proofs.PlacesRise.{named_site}
+use Rattle.scope_rules.proofs.SameNames.{same_name_tells, among_in, from_distinct, in_among, to_distinct}
 use Rattle.scope_rules.specs.Bindings.{node_of, same_name}
 use Rattle.scope_rules.specs.Evals.{contains, is_eval, is_open}
 use Rattle.scope_rules.specs.Faults.{has_undeclared, is_undeclared}
-use Rattle.scope_rules.specs.PrivateNames.{declares_private, declares_private_name, distinct_after, is_among, is_innermost, is_member_key, private_binder, private_binding, private_bindings, private_names}
+use Rattle.scope_rules.specs.PrivateNames.{declares_private, declares_private_name, is_among, is_innermost, is_member_key, private_binder, private_binding, private_bindings, private_names}
 use Rattle.scope_rules.specs.Renamings.{all_under, under}
+use Rattle.name_rules.proofs.NthUnlisted.{nth, nth_is_one_to_one, nth_is_unlisted}
+use Rattle.name_rules.proofs.ShortNumbers.{short_is_one_to_one}
+use Rattle.name_rules.specs.Open.{all_open}
+use Rattle.name_rules.specs.PrivateLaws.{IsClosedAround}
+use Rattle.name_rules.specs.PrivateNumbers.{closed_count, index_of, new_private_name, number_in, open_names, private_number}
+use Rattle.name_rules.specs.ShortNames.{short}
 
 -- ---- lists of names
-
-
-
 
 index_below : (ns : List Text) (x : Text) → is_among ns x ≡ true → index_of x ns < length ns
 unfolding all_open

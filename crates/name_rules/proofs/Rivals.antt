@@ -1,52 +1,45 @@
 -- No rival uses fewer names: groups that are live in one scope have different names in it.
-use Rattle.std.specs.Prelude.{◌≡◌, ◌⊎◌, ◌≤◌, ℕ, Bool, true, false, cond, not, ◌||◌, ◌&&◌, List, [], ◌∷◌, length, map, filter, find, nat_eq, Option, Some, None, is_none, is_some}
 use Rattle.std.specs.List.{list_any}
+use Rattle.std.specs.Prelude.{◌≡◌, ◌⊎◌, ◌≤◌, ℕ, Bool, true, false, cond, not, ◌||◌, ◌&&◌, List, [], ◌∷◌, length, map, filter, find, nat_eq, Option, Some, None, is_none, is_some}
 use Rattle.std.proofs.Common.{refl, sym, ap, ◌∙◌, subst, arith, inl, inr}
 use Rattle.std.proofs.lemmas.Bool.{or_cases, or_left, or_right, or_parts, and_parts, and_from, both_ways, eq-eqb, eqb-true}
 use Rattle.std.proofs.lemmas.List.{length-map}
-use Rattle.name_rules.proofs.Greatest.{greatest_at_most}
-use Rattle.scope_rules.proofs.FunctionNames.{function_home}
-use Rattle.list_laws.proofs.Mapped.{first_or, past_first}
-use Rattle.list_laws.proofs.Tests.{none_some, some_one, tested, told}
 use Rattle.list_laws.proofs.AnyOf.{any_from, any_some}
-use Rattle.list_laws.proofs.FirstOf.{First, find_first, find_none}
-use Rattle.list_laws.proofs.PairsOf.{PairsOf_weaken, PairsOf_filter, different_map, PairsOf}
-use Rattle.scope_rules.proofs.SameNames.{same_name_tells, in_distinct}
-use Rattle.scope_rules.proofs.PlacesRise.{one_of_number}
 use Rattle.list_laws.proofs.Counting.{no_more}
-use Rattle.name_rules.proofs.SlotNamesKeepApart.{Leader, group_own, leader_of, member_at, members_at, not_kept}
-use Rattle.name_rules.proofs.Mangling.{from_leading}
+use Rattle.list_laws.proofs.FirstOf.{First, find_first, find_none}
+use Rattle.list_laws.proofs.Mapped.{first_or, past_first}
+use Rattle.list_laws.proofs.Members.{In, contains_from_in, in_from_Contains, from_filter, from_map}
+use Rattle.list_laws.proofs.PairsOf.{PairsOf_weaken, PairsOf_filter, different_map, PairsOf}
+use Rattle.list_laws.proofs.Tests.{none_some, some_one, tested, told}
+use Rattle.tree_nodes.specs.Tree.{Parts, Text}
+use Rattle.tree_places.proofs.Blind.{sites_renamed}
+use Rattle.tree_places.proofs.Outwards.{inside_antisym, same_scope_eq, same_scope_refl}
+use Rattle.tree_places.proofs.Rising.{numbers_rise}
+use Rattle.tree_places.specs.Places.{Place, Site, named_by, names, places, scopes, sites, withs}
+use Rattle.tree_places.specs.Scopes.{Scope, first_outwards, is_inside, same_scope}
+use Rattle.scope_rules.proofs.BindingsStay.{At, binder_source, binding_function, binding_plain, binding_refers, binding_source, declares_plain, first_own, plainly}
+use Rattle.scope_rules.proofs.FunctionNames.{function_home}
+use Rattle.scope_rules.proofs.NamesSeparate.{names_separate}
+use Rattle.scope_rules.proofs.PlacesRise.{one_of_number}
+use Rattle.scope_rules.proofs.SameNames.{same_name_tells, in_distinct}
+use Rattle.scope_rules.specs.Bindings.{Bound, binder, binding, bound, declares_at, is_node, names_function_at, node, node_of, or_else, plain_binder, same_name, shadower}
+use Rattle.scope_rules.specs.Faults.{has_crossing}
+use Rattle.scope_rules.specs.Homes.{declares, declares_plainly, home, names_function, refers}
+use Rattle.scope_rules.specs.PrivateNames.{distinct}
+use Rattle.scope_rules.specs.Renamings.{IsBindingOf, is_bound_inside, is_live_in}
+use Rattle.scope_rules.specs.Separation.{IsShadowedBy, function_names_apart}
+use Rattle.name_rules.proofs.Greatest.{greatest_at_most}
 use Rattle.name_rules.proofs.LiveTogether.{live_together}
+use Rattle.name_rules.proofs.Mangling.{from_leading}
+use Rattle.name_rules.proofs.SlotNamesKeepApart.{Leader, group_own, leader_of, member_at, members_at, not_kept}
 use Rattle.name_rules.proofs.SlotsAreUsed.{leaders_apart}
-use Rattle.name_rules.specs.Groups.{Group, Member, greatest, greatest_width, group_at, group_led_by, group_of, groups_of, is_live, leads, members, reaches, width}
+use Rattle.name_rules.specs.Groups.{Group, Member, greatest_width, group_at, group_led_by, group_of, groups_of, is_live, leads, members, reaches, width}
 use Rattle.name_rules.specs.Kept.{kept_alone}
 use Rattle.name_rules.specs.Mangled.{IsRival, changes, implied, names_where}
 use Rattle.name_rules.specs.Open.{all_open}
 use Rattle.name_rules.specs.Options.{Options}
 use Rattle.name_rules.specs.Rivals.{NoRivalUsesFewer}
 use Rattle.name_rules.specs.SlotNames.{group_in}
-use Rattle.tree_nodes.specs.Tree.{Parts, Text}
-use Rattle.tree_nodes.specs.declared.table.Declared.TheVariants.{FunctionName}
-use Rattle.tree_nodes.specs.declared.table.Role.{Role}
-use Rattle.tree_nodes.specs.declared.table.Role.TheVariants.{Declares}
-use Rattle.tree_places.proofs.Blind.{sites_renamed}
-use Rattle.tree_places.proofs.Outwards.{inside_antisym, same_scope_eq, same_scope_refl}
-use Rattle.tree_places.proofs.Rising.{numbers_rise}
-use Rattle.tree_places.specs.Places.{Place, Site, named_by, names, places, scopes, sites, withs}
-use Rattle.tree_places.specs.Scopes.{Scope, first_outwards, is_inside, same_scope}
-use Rattle.list_laws.proofs.Members.{In, contains_from_in, in_from_Contains, from_filter, from_map}
-use Rattle.scope_rules.proofs.NamesSeparate.{names_separate}
-use Rattle.scope_rules.proofs.BindingsStay.{At, binder_source, binding_function, binding_plain, binding_refers, binding_source, declares_plain, first_own, plainly}
-use Rattle.scope_rules.specs.Bindings.{Bound, binder, binding, bound, declares_at, is_node, names_function_at, node, node_of, or_else, plain_binder, same_name, shadower}
-use Rattle.scope_rules.specs.Faults.{has_crossing}
-use Rattle.scope_rules.specs.Homes.{declares, declares_plainly, home, is_function_name, is_var, names_function, refers}
-use Rattle.scope_rules.specs.PrivateNames.{distinct}
-use Rattle.scope_rules.specs.Renamings.{IsBindingOf, is_bound_inside, is_live_in}
-use Rattle.scope_rules.specs.Separation.{IsShadowedBy, function_names_apart}
-
--- ---- lists
-
-
 
 -- ---- the same places under two columns of names
 
@@ -80,8 +73,6 @@ beside_in p q (x ∷ xs) (y ∷ ys) b = go b (beside_in p q xs ys)
     go : ((x ≡ p) × (y ≡ q)) ⊎ Beside p q xs ys → (Beside p q xs ys → In q ys) → In q (y ∷ ys)
     go (inl e) ih = inl e.1
     go (inr c) ih = inr (ih c)
-
-
 
 beside_same : {Y : Type 0} (f g : Place → Y) (p q : Place) (ps qs : List Place) → map f ps ≡ map g qs → Beside p q ps qs → f p ≡ g q
 unfolding Beside first_or past_first
@@ -191,7 +182,6 @@ module _ (t : Parts) where
 
 abbrev pub Other : Group → Group → Type 0
 Other g h = g ≡ h → ⊥
-
 
 module _ (o : Options) (t : Parts) where
   abbrev ps : List Place

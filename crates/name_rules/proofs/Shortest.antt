@@ -1,24 +1,31 @@
 -- No choice of names is shorter than the given names.
-use Rattle.std.specs.Prelude.{◌≡◌, ◌⊎◌, ◌≤◌, ◌<◌, ℕ, zero, suc, ◌+◌, ◌*◌, Bool, true, false, cond, not, ◌&&◌, nat_eq, nat_le, List, [], ◌∷◌, length, map, filter, get_or, sum, Option, Some, None, is_some}
 use Rattle.std.specs.List.{fold}
+use Rattle.std.specs.Prelude.{◌≡◌, ◌⊎◌, ◌≤◌, ◌<◌, ℕ, zero, suc, ◌+◌, ◌*◌, Bool, true, false, cond, not, ◌&&◌, nat_eq, nat_le, List, [], ◌∷◌, length, map, filter, get_or, sum, Option, Some, None, is_some}
 use Rattle.std.proofs.Common.{refl, sym, ap, ◌∙◌, subst, arith, inl, inr}
 use Rattle.std.proofs.lemmas.Bool.{and_parts, both_ways, cases_lt, not-true}
 use Rattle.std.proofs.lemmas.Bool.Decides.{leb_tells}
 use Rattle.std.proofs.lemmas.List.{length-map}
 use Rattle.std.proofs.lemmas.List.Filters.{length-filter_both}
-use Rattle.name_rules.proofs.CountFrom.{count_apart, count_length, count_at, from_count}
-use Rattle.list_laws.proofs.PairsOf.{PairsOf_filter, different_map, PairsOf}
-use Rattle.scope_rules.proofs.SameNames.{same_name_tells}
-use Rattle.name_rules.proofs.Bounds.{Numbered_below, found_below}
+use Rattle.list_laws.proofs.AllOf.{AllOf}
 use Rattle.list_laws.proofs.Counting.{no_more}
-use Rattle.name_rules.proofs.SlotNamesKeepApart.{Placed, member_at, members_at}
-use Rattle.name_rules.proofs.Mangling.{grouped_open, new, new_open, places_new, slot_name_of, used_name}
-use Rattle.name_rules.proofs.ShortNumbers.{lengths_never_fall}
-use Rattle.name_rules.proofs.Ranks.{in_count}
+use Rattle.list_laws.proofs.Members.{In, contains_from_in, from_filter, from_map, in_filter}
+use Rattle.list_laws.proofs.PairsOf.{PairsOf_filter, different_map, PairsOf}
+use Rattle.tree_nodes.specs.Tree.{Parts, Text}
+use Rattle.tree_places.specs.Places.{Place, places}
+use Rattle.scope_rules.proofs.SameNames.{same_name_tells}
+use Rattle.scope_rules.specs.Bindings.{is_node, same_name}
+use Rattle.scope_rules.specs.Homes.{refers}
+use Rattle.scope_rules.specs.Renamings.{under}
+use Rattle.name_rules.proofs.Bounds.{Numbered_below, found_below}
+use Rattle.name_rules.proofs.CountFrom.{count_apart, count_length, count_at, from_count}
+use Rattle.name_rules.proofs.FirstUntaken.{candidate_one, free_different, free_names_length}
 use Rattle.name_rules.proofs.GivenNamesFit.{given_name_in, given_names_fit, heavier_shorter}
+use Rattle.name_rules.proofs.Mangling.{grouped_open, new, new_open, places_new, slot_name_of, used_name}
+use Rattle.name_rules.proofs.Ranks.{in_count}
+use Rattle.name_rules.proofs.ShortNumbers.{lengths_never_fall}
+use Rattle.name_rules.proofs.SlotNamesKeepApart.{Placed, member_at, members_at}
 use Rattle.name_rules.proofs.Spelled.{spelled_short}
 use Rattle.name_rules.proofs.Totals.{no_dearer, one_more, total, total_same, total_none}
-use Rattle.name_rules.proofs.FirstUntaken.{candidate_one, free_different, free_names_length}
 use Rattle.name_rules.specs.FreeNames.{first_untaken, is_free, is_spelled, is_taken}
 use Rattle.name_rules.specs.GivenNames.{count_from, free_names, names_of_slots}
 use Rattle.name_rules.specs.Groups.{Member, members}
@@ -30,13 +37,6 @@ use Rattle.name_rules.specs.ShortNames.{candidate, short}
 use Rattle.name_rules.specs.Shortest.{IsChoice, NoChoiceIsShorter, changed_names}
 use Rattle.name_rules.specs.SlotNames.{group_in}
 use Rattle.name_rules.specs.Slots.{number_of_slots, slot_of, slots_of, weight}
-use Rattle.tree_nodes.specs.Tree.{Parts, Text}
-use Rattle.list_laws.proofs.AllOf.{AllOf}
-use Rattle.tree_places.specs.Places.{Place, places}
-use Rattle.list_laws.proofs.Members.{In, contains_from_in, from_filter, from_map, in_filter}
-use Rattle.scope_rules.specs.Bindings.{is_node, same_name}
-use Rattle.scope_rules.specs.Homes.{refers}
-use Rattle.scope_rules.specs.Renamings.{under}
 
 -- ---- the first candidates that aren't taken: lengths never fall along them, and none that is as good is passed over
 
@@ -84,8 +84,6 @@ module _ (name : ℕ → Text) (one : (m n : ℕ) → name m ≡ name n → m �
       go false q (inl m) (inr d) ih jh = inr (jh m d)
 
 -- ---- lists
-
-
 
 not_from : (b : Bool) → b ≡ false → not b ≡ true
 not_from true h = absurd (both_ways true h refl)

@@ -1,20 +1,31 @@
 -- Names that are given by slot keep apart what the old names did.
-use Rattle.std.specs.Prelude.{◌≡◌, ◌⊎◌, ◌<◌, ℕ, suc, max, Bool, true, false, cond, not, ◌||◌, ◌&&◌, List, [], ◌∷◌, ◌++◌, length, map, filter, find, nat_eq, Option, Some, None, is_some}
 use Rattle.std.specs.List.{Contains, list_any}
+use Rattle.std.specs.Prelude.{◌≡◌, ◌⊎◌, ◌<◌, ℕ, suc, max, Bool, true, false, cond, not, ◌||◌, ◌&&◌, List, [], ◌∷◌, ◌++◌, map, filter, find, nat_eq, Option, Some, None, is_some}
 use Rattle.std.proofs.Common.{refl, sym, ap, ◌∙◌, subst, arith, inl, inr}
 use Rattle.std.proofs.lemmas.Bool.{or_cases, or_left, or_right, and_parts, and_from, both_ways, eq-eqb, eqb-true}
-use Rattle.std.proofs.lemmas.Slice.Eq.{bytes_eq-Decides}
 use Rattle.std.proofs.lemmas.Simd.{map-map}
-use Rattle.scope_rules.proofs.SameNames.{same_name_tells}
-use Rattle.list_laws.proofs.PairsOf.{one_or_paired}
-use Rattle.scope_rules.proofs.PlacesRise.{named_site, one_of_number, places_rise}
-use Rattle.list_laws.proofs.Tests.{none_some, some_one, told}
+use Rattle.list_laws.proofs.AllOf.{of_each}
 use Rattle.list_laws.proofs.AnyOf.{any_from, any_some}
 use Rattle.list_laws.proofs.FirstOf.{First, find_first, find_none}
+use Rattle.list_laws.proofs.Members.{In, in_from_Contains, from_append, from_filter, from_map, in_filter, in_left, in_map, in_right}
+use Rattle.list_laws.proofs.PairsOf.{one_or_paired}
+use Rattle.list_laws.proofs.Tests.{none_some, some_one, told}
+use Rattle.tree_nodes.specs.Tree.{Parts, Text}
+use Rattle.tree_places.proofs.Homed.{var_scopes_lie_outside}
+use Rattle.tree_places.proofs.Outwards.{inside_refl, same_scope_eq, same_scope_refl}
+use Rattle.tree_places.proofs.Rooted.{scopes_around}
+use Rattle.tree_places.specs.Laws.{IsRooted}
+use Rattle.tree_places.specs.Places.{Place, names, places, scopes, sites, withs}
+use Rattle.tree_places.specs.Scopes.{Scope, is_inside, same_scope}
+use Rattle.scope_rules.proofs.BindingsStay.{At, binding_source, first_own, plainly, unbound_nothing}
+use Rattle.scope_rules.proofs.PlacesRise.{named_site, one_of_number, places_rise}
+use Rattle.scope_rules.proofs.SameNames.{same_name_tells}
+use Rattle.scope_rules.specs.Bindings.{Bound, binding, bound, declares_at, is_binding, is_node, node, node_of, plain_binder, same_name, shadower}
+use Rattle.scope_rules.specs.Homes.{declares, declares_plainly, home, is_var, names_function, refers}
+use Rattle.scope_rules.specs.Renamings.{IsBindingOf, KeepsApart, is_bound_inside, is_live_in}
+use Rattle.name_rules.proofs.GroupsInOrder.{groups_in_order}
 use Rattle.name_rules.proofs.GroupsStandApart.{never_together}
 use Rattle.name_rules.proofs.SlotsAreFewest.{Ordered_apart, pairs_apart, slotted_groups}
-use Rattle.name_rules.proofs.GroupsInOrder.{groups_in_order}
-use Rattle.list_laws.proofs.AllOf.{of_each}
 use Rattle.name_rules.specs.FreeNames.{is_taken, is_unchanged}
 use Rattle.name_rules.specs.Groups.{Group, Member, group_at, group_led_by, group_of, groups, groups_of, is_live, leads, members, reaches}
 use Rattle.name_rules.specs.Kept.{has_number, is_kept, kept_alone}
@@ -22,29 +33,8 @@ use Rattle.name_rules.specs.Open.{all_open}
 use Rattle.name_rules.specs.Options.{Options}
 use Rattle.name_rules.specs.SlotNames.{FitSlots, group_in, named_by_slot, slot_in}
 use Rattle.name_rules.specs.Slots.{Slotted, number_of_slots, slot_of, slots_of}
-use Rattle.tree_nodes.specs.Tree.{Parts, Text}
-use Rattle.tree_places.proofs.Homed.{var_scopes_lie_outside}
-use Rattle.tree_places.proofs.Outwards.{inside_refl, same_scope_eq, same_scope_refl}
-use Rattle.tree_places.proofs.Rising.{numbers_rise}
-use Rattle.tree_places.proofs.Rooted.{scopes_around}
-use Rattle.tree_places.specs.Laws.{IsRooted, RiseFrom}
-use Rattle.tree_places.specs.Places.{Named, Place, Site, named_by, names, places, scopes, sites, withs}
-use Rattle.tree_places.specs.Scopes.{Scope, is_inside, same_scope}
-use Rattle.list_laws.proofs.Members.{In, in_from_Contains, from_append, from_filter, from_map, in_filter, in_left, in_map, in_right}
-use Rattle.scope_rules.proofs.BindingsStay.{At, binding_source, first_own, plainly, unbound_nothing}
-use Rattle.scope_rules.specs.Bindings.{Bound, binding, bound, declares_at, is_binding, is_node, node, node_of, plain_binder, same_name, shadower}
-use Rattle.scope_rules.specs.Homes.{declares, declares_plainly, home, is_var, names_function, refers}
-use Rattle.scope_rules.specs.Renamings.{IsBindingOf, KeepsApart, TellsSame, is_bound_inside, is_live_in}
 
 -- ---- lists
-
-
-
-
-
-
-
-
 
 greatest_in : (bs : List Slotted) (d : Slotted) → In d bs → d.slot < number_of_slots bs
 unfolding all_open
@@ -55,12 +45,7 @@ greatest_in (b ∷ bs) d i = go i (greatest_in bs d)
     go (inl e) ih = let q : b.slot ≡ d.slot = ap (λ (x : Slotted). x.slot) e in omega (arith, q)
     go (inr j) ih = let q : d.slot < number_of_slots bs = ih j in omega (arith, q)
 
-
 -- ---- places of a tree
-
-
-
-
 
 home_rooted : (t : Parts) → IsRooted t → (p : Place) → In p (places t) → home p.site ≡ [] → ⊥
 unfolding all_open

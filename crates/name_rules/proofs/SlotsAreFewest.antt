@@ -1,33 +1,20 @@
 -- The number of slots is the greatest width.
-use Rattle.std.specs.Prelude.{◌≡◌, ◌⊎◌, ℕ, zero, suc, ◌+◌, ◌≤◌, ◌<◌, max, Bool, true, false, cond, List, [], ◌∷◌, ◌++◌, eqb, length, map, filter}
-use Rattle.std.specs.List.{list_any, IsDistinct, AllByRecursion}
-use Rattle.std.specs.Cmp.{nat_eq_equiv}
+use Rattle.std.specs.List.{list_any}
+use Rattle.std.specs.Prelude.{◌≡◌, ◌⊎◌, ℕ, zero, suc, ◌+◌, ◌≤◌, ◌<◌, Bool, true, false, cond, List, [], ◌∷◌, ◌++◌, eqb, length, map, filter}
 use Rattle.std.proofs.Common.{refl, sym, ap, ◌∙◌, subst, arith, inl, inr}
-use Rattle.std.proofs.lemmas.Bool.{or_cases, or_left, both_ways, eqb-true, ne_eqb, cases_order}
-use Rattle.std.proofs.lemmas.Map.Steps.{length-le_from_distinct_below}
-use Rattle.std.proofs.lemmas.Map.Made.{length-le_from_is_member}
+use Rattle.std.proofs.lemmas.Bool.{or_left, cases_order}
 use Rattle.std.proofs.lemmas.List.{length-map, map-append, append-nil, append_assoc}
-use Rattle.list_laws.proofs.Counting.{numbers_below}
-use Rattle.name_rules.proofs.Greatest.{greatest_at, greatest_at_most}
-use Rattle.name_rules.proofs.CountFrom.{all_below_listed}
-use Rattle.list_laws.proofs.PairsOf.{PairsOf}
-use Rattle.name_rules.specs.Open.{all_open}
-use Rattle.name_rules.proofs.GroupsStandApart.{In_order, Kept_apart, never_together, slots_apart}
 use Rattle.list_laws.proofs.AllOf.{AllOf, AllOf_push}
-use Rattle.name_rules.specs.Groups.{Group, Member, greatest, is_live, width}
+use Rattle.list_laws.proofs.Counting.{numbers_below}
+use Rattle.list_laws.proofs.PairsOf.{PairsOf}
+use Rattle.tree_places.proofs.Outwards.{same_scope_refl}
 use Rattle.tree_places.specs.Scopes.{Scope, same_scope}
+use Rattle.name_rules.proofs.CountFrom.{all_below_listed}
+use Rattle.name_rules.proofs.Greatest.{greatest_at, greatest_at_most}
+use Rattle.name_rules.proofs.GroupsStandApart.{In_order, Kept_apart, never_together, slots_apart}
+use Rattle.name_rules.specs.Groups.{Group, Member, greatest, is_live, width}
+use Rattle.name_rules.specs.Open.{all_open}
 use Rattle.name_rules.specs.Slots.{Slotted, least_missing, number_of_slots, slot_after, slots, slots_after, slots_live}
-use Rattle.name_rules.specs.GivenNames.{count_from}
-use Rattle.tree_places.proofs.Outwards.{same_scope_eq, same_scope_refl}
-
-
-
-
-
-
-
-
-
 
 -- all numbers below the least missing one are listed
 pub below_missing : (fuel : ℕ) (ns : List ℕ) (k j : ℕ) → k ≤ j → j < least_missing fuel ns k → list_any (eqb j) ns ≡ true
@@ -154,8 +141,6 @@ join_pairs : (ms : List Member) (bs : List Slotted) → PairsOf (Kept_apart ms) 
 unfolding all_open
 join_pairs ms [] k o = tt
 join_pairs ms (b ∷ bs) k o = (join_all ms b bs k.0 o.0, join_pairs ms bs k.1 o.1)
-
-
 
 slots_at_most : (ms : List Member) (whole bs : List Slotted) (ss : List Scope) → AllOf (Needed ms whole) bs → AllOf (λ g. list_any (same_scope g.home) ss ≡ true) (map (λ b. b.group) bs)
     → number_of_slots bs ≤ greatest (map (how_many ms whole) ss)

@@ -1,28 +1,27 @@
 -- Each slot below the number of slots is that of a group, and each group has one slot.
-use Rattle.std.specs.Prelude.{◌≡◌, ◌⊎◌, ◌≤◌, ◌<◌, ℕ, suc, true, false, cond, nat_eq, List, [], ◌∷◌, ◌++◌, length, map, filter, find, Option, Some, None}
 use Rattle.std.specs.List.{list_any}
+use Rattle.std.specs.Prelude.{◌≡◌, ◌⊎◌, ◌≤◌, ◌<◌, ℕ, suc, true, false, cond, nat_eq, List, [], ◌∷◌, ◌++◌, length, map, filter, find, Option, Some, None}
 use Rattle.std.proofs.Common.{refl, sym, ap, ◌∙◌, subst, arith, inl, inr}
 use Rattle.std.proofs.lemmas.Bool.{eq-eqb, eqb-true, cases_order, ne_eqb}
+use Rattle.list_laws.proofs.AllOf.{AllOf, AllOf_push, of_each}
 use Rattle.list_laws.proofs.AnyOf.{any_from, any_some}
+use Rattle.list_laws.proofs.Members.{In, from_append, from_filter, from_map, in_left, in_right}
 use Rattle.list_laws.proofs.PairsOf.{PairsOf_filter, PairsOf, PairsOf_map, PairsOf_append_members}
+use Rattle.tree_nodes.specs.Tree.{Parts}
+use Rattle.tree_places.proofs.Outwards.{same_scope_eq}
+use Rattle.tree_places.proofs.Rising.{numbers_rise}
+use Rattle.tree_places.specs.Laws.{AreNumbered, RiseFrom}
+use Rattle.tree_places.specs.Places.{Place, places, scopes}
+use Rattle.tree_places.specs.Scopes.{Scope, same_scope}
 use Rattle.scope_rules.proofs.PlacesRise.{one_of_number, places_rise, above}
-use Rattle.name_rules.proofs.SlotsAreFewest.{below_missing, slotted_groups}
+use Rattle.scope_rules.specs.Bindings.{node}
+use Rattle.scope_rules.specs.Homes.{home}
 use Rattle.name_rules.proofs.SlotNamesKeepApart.{from_groups, member_at, members_at}
-use Rattle.list_laws.proofs.AllOf.{of_each}
+use Rattle.name_rules.proofs.SlotsAreFewest.{below_missing, slotted_groups}
 use Rattle.name_rules.specs.Groups.{Group, Member, greatest, group_led_by, groups, groups_of, is_live, leads, members}
 use Rattle.name_rules.specs.Open.{all_open}
 use Rattle.name_rules.specs.Options.{Options}
 use Rattle.name_rules.specs.Slots.{Slotted, number_of_slots, slot_after, slot_of, slots_after, slots_live, slots_of}
-use Rattle.tree_nodes.specs.Tree.{Parts}
-use Rattle.tree_places.proofs.Outwards.{same_scope_eq}
-use Rattle.tree_places.proofs.Rising.{numbers_rise}
-use Rattle.list_laws.proofs.AllOf.{AllOf, AllOf_push}
-use Rattle.tree_places.specs.Laws.{AreNumbered, RiseFrom}
-use Rattle.tree_places.specs.Places.{Place, places, scopes}
-use Rattle.tree_places.specs.Scopes.{Scope, same_scope}
-use Rattle.list_laws.proofs.Members.{In, from_append, from_filter, from_map, in_left, in_right}
-use Rattle.scope_rules.specs.Bindings.{node}
-use Rattle.scope_rules.specs.Homes.{home}
 
 -- ---- below each slot that is given all slots are
 
@@ -94,8 +93,6 @@ places_apart n (p ∷ ps) r = (each ps (λ q i. above (suc (node p)) ps q r.1 i)
     each : (qs : List Place) → ((q : Place) → In q qs → suc (node p) ≤ node q) → AllOf (λ q. node p ≡ node q → ⊥) qs
     each [] f = tt
     each (q ∷ qs) f = ((λ e. let h : suc (node p) ≤ node q = f q (inl refl) in omega (arith, h, e)), each qs (λ x i. f x (inr i)))
-
-
 
 -- the groups at a scope, and at those after it
 from_scope : (ms : List Member) (s : Scope) (g : Group) → In g (map group_led_by (filter (λ m. same_scope (home m.place.site) s) (filter leads ms))) → g.home ≡ s

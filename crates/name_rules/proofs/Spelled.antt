@@ -1,14 +1,14 @@
 -- Each text of the characters of names is the short name of some number.
-use Rattle.std.specs.Prelude.{◌≡◌, ◌≤◌, ◌<◌, ℕ, zero, suc, ◌+◌, ◌*◌, ◌/◌, ◌%◌, true, nat_eq, [], ◌∷◌, length, get_or, take}
 use Rattle.std.specs.List.{list_all, list_any}
+use Rattle.std.specs.Prelude.{◌≡◌, ◌≤◌, ◌<◌, ℕ, zero, suc, ◌+◌, ◌*◌, ◌/◌, ◌%◌, true, nat_eq, [], ◌∷◌, length, get_or, take}
 use Rattle.std.proofs.Common.{refl, sym, ap, ◌∙◌, arith}
 use Rattle.std.proofs.lemmas.Bool.{and_parts, both_ways, eqb-true}
 use Rattle.list_laws.proofs.AnyOf.{any_some}
+use Rattle.list_laws.proofs.Members.{In, found_at}
+use Rattle.tree_nodes.specs.Tree.{Text}
 use Rattle.name_rules.specs.FreeNames.{is_spelled}
 use Rattle.name_rules.specs.Open.{all_open}
 use Rattle.name_rules.specs.ShortNames.{characters, more_characters, short}
-use Rattle.tree_nodes.specs.Tree.{Text}
-use Rattle.list_laws.proofs.Members.{In, found_at}
 
 -- where a listed character stands
 standing : (xs : Text) (c : ℕ) → list_any (nat_eq c) xs ≡ true → (p : ℕ) × (p < length xs) × (get_or xs p 0 ≡ c)

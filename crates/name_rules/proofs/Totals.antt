@@ -4,9 +4,9 @@ use Rattle.std.proofs.Common.{refl, sym, ap, ◌∙◌, subst, arith, inl, inr, 
 use Rattle.std.proofs.Math.Nat.{suc-mul}
 use Rattle.std.proofs.lemmas.Bool.{cases_lt, eq-eqb, ne_eqb}
 use Rattle.std.proofs.lemmas.Bool.Decides.{leb_tells}
-use Rattle.list_laws.proofs.PairsOf.{PairsOf}
 use Rattle.list_laws.proofs.AllOf.{AllOf}
 use Rattle.list_laws.proofs.Members.{In}
+use Rattle.list_laws.proofs.PairsOf.{PairsOf}
 
 abbrev pub total : (ℕ → ℕ) → List ℕ → ℕ
 total f [] = 0

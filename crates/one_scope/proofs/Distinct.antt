@@ -1,17 +1,17 @@
 -- Lists of names, each once, and where a name stands in them.
-use Rattle.std.specs.Prelude.{◌≡◌, ◌≤◌, ℕ, suc, ◌+◌, Bool, true, false, cond, ◌||◌, List, [], ◌∷◌, ◌++◌, length, filter, Some, None, is_some, bytes_eq, if◌then◌else◌}
 use Rattle.std.specs.List.{position_from}
+use Rattle.std.specs.Prelude.{◌≡◌, ◌≤◌, ℕ, suc, ◌+◌, Bool, true, false, cond, ◌||◌, List, [], ◌∷◌, ◌++◌, length, filter, Some, None, is_some, bytes_eq, if◌then◌else◌}
 use Rattle.std.proofs.Common.{refl, sym, ap, ◌∙◌, arith}
 use Rattle.std.proofs.lemmas.Bool.{or_parts, both_ways}
-use Rattle.scope_rules.proofs.SameNames.{distinct_after_most}
+use Rattle.list_laws.proofs.AllOf.{AllOf}
 use Rattle.list_laws.proofs.PairsOf.{PairsOf, PairsOf_filter}
+use Rattle.tree_nodes.specs.Tree.{Text}
+use Rattle.scope_rules.proofs.SameNames.{distinct_after_most}
+use Rattle.scope_rules.specs.Bindings.{or_else}
+use Rattle.scope_rules.specs.PrivateNames.{distinct, distinct_after, is_among}
 use Rattle.one_scope.proofs.Texts.{same_is, same_sym}
 use Rattle.one_scope.specs.Flat.{flat_slot}
 use Rattle.one_scope.specs.Open.{all_open}
-use Rattle.tree_nodes.specs.Tree.{Text}
-use Rattle.list_laws.proofs.AllOf.{AllOf}
-use Rattle.scope_rules.specs.Bindings.{or_else}
-use Rattle.scope_rules.specs.PrivateNames.{distinct, distinct_after, is_among}
 
 -- ---- which names are among them
 
@@ -46,7 +46,6 @@ unfolding all_open
 among_distinct xs x = among_after [] xs x refl
 
 -- ---- one name more
-
 
 or_over : (a b c : Bool) → ((a || b) || c) ≡ (b || (a || c))
 or_over true true c = refl
@@ -143,15 +142,11 @@ after_apart before (y ∷ ys) = go (is_among before y) (after_apart before ys) (
     go true ih jh a = ih
     go false ih jh a = (a, jh)
 
-
-
 pub distinct_apart : (test : Text → Bool) (xs : List Text) → AllApart (filter test (distinct xs))
 unfolding all_open
 distinct_apart test xs = PairsOf_filter (λ x y. bytes_eq x y ≡ false) test (distinct xs) (after_apart [] xs)
 
 -- ---- they are no more than the names
-
-
 
 pub distinct_less : (xs : List Text) → length (distinct xs) ≤ length xs
 unfolding all_open

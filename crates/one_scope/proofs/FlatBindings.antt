@@ -2,15 +2,15 @@
 use Rattle.std.specs.Prelude.{◌≡◌, ℕ, Bool, true, false, cond, ◌&&◌, List, [], ◌∷◌, find, Option, Some, None}
 use Rattle.std.proofs.Common.{refl, sym, ap, ◌∙◌}
 use Rattle.list_laws.proofs.FirstOf.{find_same, find_nothing}
-use Rattle.one_scope.proofs.FlatSites.{declaring, homed, nameless, other_declares, plain, referring}
-use Rattle.one_scope.specs.OneScope.{IsFlat}
-use Rattle.one_scope.specs.Open.{all_open}
+use Rattle.list_laws.proofs.Members.{In}
 use Rattle.tree_nodes.specs.Tree.{Text}
 use Rattle.tree_places.specs.Places.{Place}
 use Rattle.tree_places.specs.Scopes.{Scope, first_outwards, same_scope}
-use Rattle.list_laws.proofs.Members.{In}
 use Rattle.scope_rules.specs.Bindings.{binder, binding, declares_at, names_function_at, node, node_of, or_else, plain_binder, same_name, shadower}
 use Rattle.scope_rules.specs.Homes.{declares, declares_plainly, home, is_declaring, names_function, refers}
+use Rattle.one_scope.proofs.FlatSites.{declaring, homed, nameless, other_declares, plain, referring}
+use Rattle.one_scope.specs.OneScope.{IsFlat}
+use Rattle.one_scope.specs.Open.{all_open}
 
 -- it declares this name
 unfoldable pub declares_as : Text → Place → Bool

@@ -1,19 +1,19 @@
 -- The only faults of a flat tree are names that are declared again.
-use Rattle.std.specs.Prelude.{◌≡◌, ℕ, Bool, true, false, not, ◌&&◌, ◌||◌, List, [], ◌∷◌, map, Option, Some, None}
 use Rattle.std.specs.List.{list_any}
+use Rattle.std.specs.Prelude.{◌≡◌, ℕ, Bool, true, false, not, ◌&&◌, ◌||◌, List, [], ◌∷◌, map, Option, Some, None}
 use Rattle.std.proofs.Common.{refl, sym, ap, ◌∙◌, inl, inr}
 use Rattle.list_laws.proofs.AnyOf.{any_none, any_map, any_same}
+use Rattle.list_laws.proofs.Members.{In}
+use Rattle.tree_places.specs.Places.{Place}
+use Rattle.tree_places.specs.Scopes.{Scope, any_below, same_scope}
+use Rattle.scope_rules.specs.Bindings.{binding, bound, same_name}
+use Rattle.scope_rules.specs.Faults.{crosses, has_crossing, has_fault, has_reach, has_redeclaration, has_sloppy_function, has_undeclared, is_of_body, is_single_at, is_sloppy_function, is_undeclared, reaches_body, redeclares}
+use Rattle.scope_rules.specs.Homes.{declares, declares_plainly, home, is_declaring, is_joinable, is_var, lies_in_var_scope, refers}
 use Rattle.one_scope.proofs.FlatSites.{and_no, homed, joinable, no_plain_function, plain}
 use Rattle.one_scope.specs.Entries.{entry_of}
 use Rattle.one_scope.specs.Flat.{has_flat_fault, redeclares_flat}
 use Rattle.one_scope.specs.OneScope.{IsFlat}
 use Rattle.one_scope.specs.Open.{all_open}
-use Rattle.tree_places.specs.Places.{Place}
-use Rattle.tree_places.specs.Scopes.{Scope, any_below, same_scope}
-use Rattle.list_laws.proofs.Members.{In}
-use Rattle.scope_rules.specs.Bindings.{binding, bound, same_name}
-use Rattle.scope_rules.specs.Faults.{crosses, has_crossing, has_fault, has_reach, has_redeclaration, has_sloppy_function, has_undeclared, is_of_body, is_single_at, is_sloppy_function, is_undeclared, reaches_body, redeclares}
-use Rattle.scope_rules.specs.Homes.{declares, declares_plainly, home, is_declaring, is_joinable, is_var, lies_in_var_scope, refers}
 
 redeclares_is : (p q : Place) → IsFlat p.site → IsFlat q.site → redeclares same_name p q ≡ redeclares_flat (entry_of p) (entry_of q)
 unfolding all_open

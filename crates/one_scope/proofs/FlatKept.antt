@@ -1,32 +1,32 @@
 -- In a flat tree a binding is kept where all are, or where its name is reserved; each other one is a group of its own.
-use Rattle.std.specs.Prelude.{◌≡◌, ℕ, Bool, true, false, cond, not, ◌&&◌, ◌||◌, nat_eq, List, [], ◌∷◌, map, filter, find, Option, Some, None}
 use Rattle.std.specs.List.{list_any}
+use Rattle.std.specs.Prelude.{◌≡◌, ℕ, Bool, true, false, cond, not, ◌&&◌, ◌||◌, nat_eq, List, [], ◌∷◌, map, filter, find, Option, Some, None}
 use Rattle.std.proofs.Common.{refl, sym, ap, ◌∙◌, subst}
 use Rattle.std.proofs.lemmas.Bool.{and_parts, and_from, eq-eqb, eqb-true}
 use Rattle.std.proofs.lemmas.Simd.{map-map}
-use Rattle.scope_rules.proofs.PlacesRise.{one_place}
-use Rattle.list_laws.proofs.Mapped.{map_same}
-use Rattle.scope_rules.proofs.SameNames.{same_name_tells}
 use Rattle.list_laws.proofs.AnyOf.{any_none, any_from, any_map, any_same, any_some}
 use Rattle.list_laws.proofs.FirstOf.{find_only, find_first}
+use Rattle.list_laws.proofs.Mapped.{map_same}
+use Rattle.list_laws.proofs.Members.{In, from_filter, from_map, in_filter, in_map}
 use Rattle.list_laws.proofs.Tests.{tests_agree, told}
+use Rattle.tree_nodes.specs.Tree.{Text}
+use Rattle.tree_places.specs.Laws.{RiseFrom}
+use Rattle.tree_places.specs.Places.{Place}
+use Rattle.tree_places.specs.Scopes.{Scope, is_inside}
+use Rattle.scope_rules.proofs.PlacesRise.{one_place}
+use Rattle.scope_rules.proofs.SameNames.{same_name_tells}
+use Rattle.scope_rules.specs.Bindings.{Bound, binding, is_binding, is_node, node, node_of, same_name, shadower}
+use Rattle.scope_rules.specs.Evals.{holds_eval, is_eval}
+use Rattle.scope_rules.specs.Homes.{declares, home, is_declaring, refers}
+use Rattle.name_rules.specs.Groups.{Member, group_at, group_of, members_of}
+use Rattle.name_rules.specs.Kept.{gets_value, has_number, is_assigned, is_declared_with, is_exported, is_kept_alone, is_of_root, is_place_of, is_reserved, is_root, kept_alone, name_kept, role_kept, value_kept}
+use Rattle.name_rules.specs.Options.{Options}
 use Rattle.one_scope.proofs.FlatBindings.{binding_first, declares_as, first_of, unshadowed}
 use Rattle.one_scope.proofs.FlatSites.{and_no, and_yes, declaring, homed, no_role_kept, no_value_kept}
 use Rattle.one_scope.specs.Entries.{entry_of}
 use Rattle.one_scope.specs.Flat.{is_flat_eval, keeps_all}
 use Rattle.one_scope.specs.OneScope.{IsFlat}
 use Rattle.one_scope.specs.Open.{all_open}
-use Rattle.name_rules.specs.Groups.{Member, group_at, group_of, members_of}
-use Rattle.name_rules.specs.Kept.{gets_value, has_number, is_assigned, is_declared_with, is_exported, is_kept_alone, is_of_root, is_place_of, is_reserved, is_root, kept_alone, name_kept, role_kept, value_kept}
-use Rattle.name_rules.specs.Options.{Options}
-use Rattle.tree_nodes.specs.Tree.{Text}
-use Rattle.tree_places.specs.Laws.{RiseFrom}
-use Rattle.tree_places.specs.Places.{Place}
-use Rattle.tree_places.specs.Scopes.{Scope, is_inside}
-use Rattle.list_laws.proofs.Members.{In, from_filter, from_map, in_filter, in_map}
-use Rattle.scope_rules.specs.Bindings.{Bound, binding, is_binding, is_node, node, node_of, same_name, shadower}
-use Rattle.scope_rules.specs.Evals.{holds_eval, is_eval}
-use Rattle.scope_rules.specs.Homes.{declares, home, is_declaring, refers}
 
 -- the name is kept
 unfoldable pub keeps : Options → List Place → Text → Bool

@@ -1,27 +1,28 @@
 -- In a flat tree the new names are those that the plain definitions give.
-use Rattle.std.specs.Prelude.{◌≡◌, ℕ, zero, suc, ◌+◌, ◌≤◌, ◌<◌, Bool, true, false, cond, not, ◌&&◌, ◌||◌, List, [], ◌∷◌, ◌++◌, map, length, filter, get_or, Option, Some, None, is_some}
 use Rattle.std.specs.List.{position_from}
+use Rattle.std.specs.Prelude.{◌≡◌, ℕ, zero, suc, ◌+◌, ◌≤◌, ◌<◌, Bool, true, false, cond, not, ◌&&◌, ◌||◌, List, [], ◌∷◌, ◌++◌, map, length, filter, get_or, Option, Some, None, is_some}
 use Rattle.std.proofs.Common.{refl, sym, ap, ◌∙◌, subst, arith, inl, inr}
 use Rattle.std.proofs.lemmas.Bool.{both_ways, eq-eqb, eqb-true, ne_eqb}
 use Rattle.std.proofs.lemmas.List.{append_assoc, length-append, length-map}
 use Rattle.std.proofs.lemmas.Simd.{map-map}
-use Rattle.name_rules.proofs.FirstUntaken.{first_untaken_same}
-use Rattle.scope_rules.proofs.PlacesRise.{above, one_place}
-use Rattle.list_laws.proofs.Tests.{tested}
-use Rattle.list_laws.proofs.Mapped.{map_same}
+use Rattle.list_laws.proofs.AllOf.{AllOf, of_each}
 use Rattle.list_laws.proofs.AnyOf.{any_map, any_same}
-use Rattle.list_laws.proofs.PairsOf.{PairsOf_filter, different_map, PairsOf}
-use Rattle.scope_rules.proofs.SameNames.{same_name_tells}
 use Rattle.list_laws.proofs.Filtered.{filter_map_before, filter_same}
-use Rattle.one_scope.proofs.FlatKept.{group_named, member}
-use Rattle.one_scope.proofs.FlatOwners.{grouped_among, leader_named, leaders, leads_at, name_either, name_told, owners_named}
-use Rattle.one_scope.proofs.FlatSites.{declaring, other_declares, referring}
-use Rattle.one_scope.proofs.FlatSlots.{numbered, slot_positioned, slots_counted}
-use Rattle.one_scope.specs.Entries.{Entry, entry_of}
-use Rattle.one_scope.specs.Flat.{flat_free_names, flat_name, flat_new_names, flat_slot, flat_slot_names, flat_weight, is_taken_flat, slot_owners}
-use Rattle.one_scope.specs.OneScope.{IsFlat}
-use Rattle.one_scope.specs.Open.{all_open}
-use Rattle.list_laws.proofs.AllOf.{of_each}
+use Rattle.list_laws.proofs.Mapped.{map_same}
+use Rattle.list_laws.proofs.Members.{In, from_filter, in_map, in_right}
+use Rattle.list_laws.proofs.PairsOf.{PairsOf_filter, different_map, PairsOf}
+use Rattle.list_laws.proofs.Tests.{tested}
+use Rattle.syntax_lex.specs.Keyword.{is_reserved_keyword}
+use Rattle.tree_nodes.specs.Tree.{Text}
+use Rattle.tree_places.specs.Laws.{RiseFrom}
+use Rattle.tree_places.specs.Places.{Place}
+use Rattle.scope_rules.proofs.PlacesRise.{above, one_place}
+use Rattle.scope_rules.proofs.SameNames.{same_name_tells}
+use Rattle.scope_rules.specs.Bindings.{is_node, node, same_name}
+use Rattle.scope_rules.specs.Evals.{name_eval}
+use Rattle.scope_rules.specs.Homes.{declares, is_reference, refers}
+use Rattle.scope_rules.specs.PrivateNames.{is_among}
+use Rattle.name_rules.proofs.FirstUntaken.{first_untaken_same}
 use Rattle.name_rules.specs.FreeNames.{first_untaken, is_taken, is_unchanged}
 use Rattle.name_rules.specs.GivenNames.{count_from, free_names, new_name, slot_names}
 use Rattle.name_rules.specs.Groups.{Member}
@@ -30,19 +31,14 @@ use Rattle.name_rules.specs.Options.{Options}
 use Rattle.name_rules.specs.PrivateNumbers.{new_private_name, with_private}
 use Rattle.name_rules.specs.ShortNames.{candidate}
 use Rattle.name_rules.specs.Slots.{Slotted, number_of_slots, slot_of, weight}
-use Rattle.syntax_lex.specs.Keyword.{is_reserved_keyword}
-use Rattle.tree_nodes.specs.Tree.{Text}
-use Rattle.list_laws.proofs.AllOf.{AllOf}
-use Rattle.tree_places.specs.Laws.{RiseFrom}
-use Rattle.tree_places.specs.Places.{Place}
-use Rattle.list_laws.proofs.Members.{In, from_filter, in_map, in_right}
-use Rattle.scope_rules.specs.Bindings.{is_node, node, same_name}
-use Rattle.scope_rules.specs.Evals.{name_eval}
-use Rattle.scope_rules.specs.Homes.{declares, is_reference, refers}
-use Rattle.scope_rules.specs.PrivateNames.{is_among}
-
--- ---- free names
-
+use Rattle.one_scope.proofs.FlatKept.{group_named, member}
+use Rattle.one_scope.proofs.FlatOwners.{grouped_among, leader_named, leaders, leads_at, name_either, name_told, owners_named}
+use Rattle.one_scope.proofs.FlatSites.{declaring, other_declares, referring}
+use Rattle.one_scope.proofs.FlatSlots.{numbered, slot_positioned, slots_counted}
+use Rattle.one_scope.specs.Entries.{Entry, entry_of}
+use Rattle.one_scope.specs.Flat.{flat_free_names, flat_name, flat_new_names, flat_slot, flat_slot_names, flat_weight, is_taken_flat, slot_owners}
+use Rattle.one_scope.specs.OneScope.{IsFlat}
+use Rattle.one_scope.specs.Open.{all_open}
 
 -- ---- where a name stands among different ones
 

@@ -1,16 +1,26 @@
 -- In a flat tree the leaders of groups are the first places of the names that are given up, in their order.
-use Rattle.std.specs.Prelude.{◌≡◌, ◌⊎◌, ℕ, suc, ◌≤◌, Bool, true, false, cond, not, ◌&&◌, ◌||◌, List, [], ◌∷◌, ◌++◌, map, filter, find, Option, Some, None, is_some}
 use Rattle.std.specs.List.{list_any}
+use Rattle.std.specs.Prelude.{◌≡◌, ◌⊎◌, ℕ, suc, ◌≤◌, Bool, true, false, cond, not, ◌&&◌, ◌||◌, List, [], ◌∷◌, ◌++◌, map, filter, find, Option, Some, None, is_some}
 use Rattle.std.proofs.Common.{refl, sym, ap, ◌∙◌, subst, arith, inl, inr}
 use Rattle.std.proofs.lemmas.Bool.{and_parts, and_from, both_ways, eq-eqb, eqb-true, ne_eqb}
 use Rattle.std.proofs.lemmas.List.{append_assoc}
 use Rattle.std.proofs.lemmas.List.Folds.{list_any-append}
-use Rattle.scope_rules.proofs.PlacesRise.{above, one_place}
 use Rattle.list_laws.proofs.AnyOf.{any_from, any_map, any_some}
-use Rattle.scope_rules.proofs.SameNames.{same_name_tells}
-use Rattle.list_laws.proofs.FirstOf.{find_early, find_past, First, find_first}
 use Rattle.list_laws.proofs.Filtered.{filter_same, filter_none, filter_twice}
+use Rattle.list_laws.proofs.FirstOf.{find_early, find_past, First, find_first}
+use Rattle.list_laws.proofs.Members.{In, from_filter, in_filter, in_right}
 use Rattle.list_laws.proofs.Tests.{tests_agree, tested, told}
+use Rattle.tree_nodes.specs.Tree.{Text}
+use Rattle.tree_places.specs.Laws.{RiseFrom}
+use Rattle.tree_places.specs.Places.{Place}
+use Rattle.scope_rules.proofs.PlacesRise.{above, one_place}
+use Rattle.scope_rules.proofs.SameNames.{same_name_tells}
+use Rattle.scope_rules.specs.Bindings.{is_node, node, node_of, same_name}
+use Rattle.scope_rules.specs.Homes.{declares, is_declaring}
+use Rattle.scope_rules.specs.PrivateNames.{distinct_after, is_among}
+use Rattle.name_rules.specs.Groups.{leads}
+use Rattle.name_rules.specs.Kept.{is_reserved}
+use Rattle.name_rules.specs.Options.{Options}
 use Rattle.one_scope.proofs.FlatBindings.{declares_as, first_of}
 use Rattle.one_scope.proofs.FlatKept.{group_named, keeps, member}
 use Rattle.one_scope.proofs.FlatSites.{and_no, declaring}
@@ -18,16 +28,6 @@ use Rattle.one_scope.specs.Entries.{Entry, entry_of}
 use Rattle.one_scope.specs.Flat.{declared_names, keeps_all, slot_owners}
 use Rattle.one_scope.specs.OneScope.{IsFlat}
 use Rattle.one_scope.specs.Open.{all_open}
-use Rattle.name_rules.specs.Groups.{leads}
-use Rattle.name_rules.specs.Kept.{is_reserved}
-use Rattle.name_rules.specs.Options.{Options}
-use Rattle.tree_nodes.specs.Tree.{Text}
-use Rattle.tree_places.specs.Laws.{RiseFrom}
-use Rattle.tree_places.specs.Places.{Place}
-use Rattle.list_laws.proofs.Members.{In, from_filter, in_filter, in_right}
-use Rattle.scope_rules.specs.Bindings.{is_node, node, node_of, same_name}
-use Rattle.scope_rules.specs.Homes.{declares, is_declaring}
-use Rattle.scope_rules.specs.PrivateNames.{distinct_after, is_among}
 
 pub name_told : (x y : Text) → same_name x y ≡ true → x ≡ y
 name_told x y = (same_name_tells x y).0

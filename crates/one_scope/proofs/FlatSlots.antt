@@ -1,29 +1,29 @@
 -- In a flat tree each group has a slot of its own, by rising leader.
-use Rattle.std.specs.Prelude.{◌≡◌, ◌⊎◌, ℕ, zero, suc, ◌+◌, ◌≤◌, ◌<◌, max, Bool, true, false, cond, ◌||◌, nat_eq, List, [], ◌∷◌, ◌++◌, map, length, filter, find, Option, Some, None}
 use Rattle.std.specs.List.{list_any, position_from}
+use Rattle.std.specs.Prelude.{◌≡◌, ◌⊎◌, ℕ, zero, suc, ◌+◌, ◌≤◌, ◌<◌, max, Bool, true, false, cond, ◌||◌, nat_eq, List, [], ◌∷◌, ◌++◌, map, length, filter, find, Option, Some, None}
 use Rattle.std.proofs.Common.{refl, sym, ap, ◌∙◌, subst, arith, inl, inr}
 use Rattle.std.proofs.lemmas.Bool.{or_left, or_right, cases_order, eq-eqb, eqb-true, ne_eqb}
 use Rattle.std.proofs.lemmas.List.{append-nil, append_assoc}
 use Rattle.std.proofs.lemmas.Simd.{map-map}
-use Rattle.list_laws.proofs.Mapped.{map_same}
 use Rattle.list_laws.proofs.Filtered.{filter_map_before, filter_all}
+use Rattle.list_laws.proofs.Mapped.{map_same}
+use Rattle.list_laws.proofs.Members.{In, from_filter, from_map}
 use Rattle.list_laws.proofs.Tests.{tests_agree}
+use Rattle.tree_nodes.specs.Tree.{Text}
+use Rattle.tree_places.proofs.Outwards.{same_scope_refl}
+use Rattle.tree_places.specs.Places.{Place}
+use Rattle.tree_places.specs.Scopes.{same_scope}
+use Rattle.scope_rules.specs.Bindings.{is_node, node, same_name}
+use Rattle.scope_rules.specs.Homes.{home}
+use Rattle.name_rules.specs.GivenNames.{count_from}
+use Rattle.name_rules.specs.Groups.{Group, Member, greatest, group_led_by, groups, leads}
+use Rattle.name_rules.specs.Options.{Options}
+use Rattle.name_rules.specs.Slots.{Slotted, least_missing, number_of_slots, slot_after, slot_of, slots, slots_after, slots_live}
 use Rattle.one_scope.proofs.FlatKept.{member}
 use Rattle.one_scope.proofs.FlatOwners.{leaders, leads_at}
 use Rattle.one_scope.proofs.FlatSites.{homed}
 use Rattle.one_scope.specs.OneScope.{IsFlat}
 use Rattle.one_scope.specs.Open.{all_open}
-use Rattle.name_rules.specs.GivenNames.{count_from}
-use Rattle.name_rules.specs.Groups.{Group, Member, greatest, group_led_by, groups, leads}
-use Rattle.name_rules.specs.Options.{Options}
-use Rattle.name_rules.specs.Slots.{Slotted, least_missing, number_of_slots, slot_after, slot_of, slots, slots_after, slots_live}
-use Rattle.tree_nodes.specs.Tree.{Text}
-use Rattle.tree_places.proofs.Outwards.{same_scope_refl}
-use Rattle.tree_places.specs.Places.{Place}
-use Rattle.tree_places.specs.Scopes.{same_scope}
-use Rattle.list_laws.proofs.Members.{In, from_filter, from_map}
-use Rattle.scope_rules.specs.Bindings.{is_node, node, same_name}
-use Rattle.scope_rules.specs.Homes.{home}
 
 -- the group that a place leads in the one scope, and groups with the slots from k on
 unfoldable pub root_group : Place → Group

@@ -1,33 +1,32 @@
 -- The names that the slots get.
-use Rattle.std.specs.Prelude.{◌≡◌, ◌≤◌, ◌<◌, ℕ, zero, suc, ◌+◌, Bool, true, false, List, [], ◌∷◌, ◌++◌, length, get_or, map, Option, Some, None, bytes_eq, slice_get, IfSome}
 use Rattle.std.specs.List.{position_from}
+use Rattle.std.specs.Prelude.{◌≡◌, ◌≤◌, ◌<◌, ℕ, zero, suc, ◌+◌, Bool, true, false, List, [], ◌∷◌, ◌++◌, length, get_or, map, Option, Some, None, bytes_eq, slice_get, IfSome}
 use Rattle.std.proofs.Common.{refl, sym, ap, ◌∙◌, subst, arith}
 use Rattle.std.proofs.lemmas.Bool.{both_ways}
 use Rattle.std.proofs.lemmas.List.{length-append, length-map}
 use Rattle.std.proofs.lemmas.Option.{slice_get-get_or}
+use Rattle.syntax_lex.specs.Keyword.{reserved_keywords}
+use Rattle.tree_nodes.specs.Tree.{Text}
+use Rattle.tree_places.specs.Chosen.{chosen, given_name, or_own}
+use Rattle.scope_rules.specs.Bindings.{same_name}
+use Rattle.scope_rules.specs.Evals.{name_eval}
 use Rattle.name_rules.proofs.CountFrom.{slot_names_length}
+use Rattle.name_rules.proofs.FirstUntaken.{candidate_one, enough_untaken, first_untaken_same}
+use Rattle.name_rules.specs.FreeNames.{first_untaken}
+use Rattle.name_rules.specs.GivenNames.{count_from, slot_names}
+use Rattle.name_rules.specs.Kept.{name_arguments}
+use Rattle.name_rules.specs.Options.{Options}
+use Rattle.name_rules.specs.ShortNames.{candidate}
+use Rattle.oxc_mangler.proofs.NextNames.{how_many, is_listed}
+use Rattle.oxc_mangler.specs.FirstFree.{AreFirstFree}
+use Rattle.oxc_mangler.specs.Guard.{is_refused}
 use Rattle.one_scope.proofs.Weights.{position_within}
 use Rattle.one_scope.specs.Entries.{Entry}
 use Rattle.one_scope.specs.Flat.{flat_free_names, flat_name, flat_new_names, flat_slot, flat_slot_names, flat_slots, flat_weight, is_taken_flat, slot_owners}
 use Rattle.one_scope.specs.Open.{all_open}
 use Rattle.one_scope.specs.Steps.{AreWithin}
-use Rattle.tree_places.specs.Chosen.{chosen, given_name, or_own}
-use Rattle.oxc_mangler.proofs.NextNames.{how_many, is_listed}
-use Rattle.name_rules.proofs.FirstUntaken.{candidate_one, enough_untaken, first_untaken_same}
-use Rattle.oxc_mangler.specs.FirstFree.{AreFirstFree}
-use Rattle.name_rules.specs.FreeNames.{first_untaken}
-use Rattle.name_rules.specs.GivenNames.{count_from, slot_names}
-use Rattle.oxc_mangler.specs.Guard.{is_refused}
-use Rattle.name_rules.specs.Kept.{name_arguments}
-use Rattle.name_rules.specs.Options.{Options}
-use Rattle.name_rules.specs.ShortNames.{candidate}
-use Rattle.syntax_lex.specs.Keyword.{reserved_keywords}
-use Rattle.tree_nodes.specs.Tree.{Text}
-use Rattle.scope_rules.specs.Bindings.{same_name}
-use Rattle.scope_rules.specs.Evals.{name_eval}
 
 -- ---- the free names
-
 
 -- the names that a guard lets through are free, and there are as many as are wanted
 pub free_are : (o : Options) (es : List Entry) (owners guard names : List Text) (readable : Bool) (n : ℕ) → readable ≡ o.readable → n ≡ length owners → length guard ≤ length o.reserved + length es
@@ -49,8 +48,6 @@ free_length guard names readable n first =
     ∙ enough_untaken (candidate readable) (candidate_one readable) (is_refused guard) listed (λ x h. is_listed guard x h) (n + 48 + length guard) n 0 (omega (arith, a, b, c))
 
 -- ---- the names of the slots
-
-
 
 pub slots_named : (o : Options) (es : List Entry) (free given : List Text) (weights : List ℕ) → free ≡ flat_free_names o es (slot_owners o es) → weights ≡ map (flat_weight es) (slot_owners o es) → given ≡ slot_names free weights → given ≡ flat_slot_names o es
 unfolding flat_slot_names

@@ -4,16 +4,16 @@ use Rattle.std.proofs.Common.{refl, sym, ap, ◌∙◌, arith}
 use Rattle.std.proofs.lemmas.List.{length-append, length-map, map-append, take_all, append-nil}
 use Rattle.std.proofs.lemmas.List.Elements.{filter-append}
 use Rattle.list_laws.proofs.Filtered.{filter_most}
-use Rattle.one_scope.proofs.Distinct.{AllApart, among_distinct, among_filter, distinct_apart, distinct_less, distinct_more, slot_more, slot_some}
-use Rattle.one_scope.proofs.Texts.{put_none, seen_more}
-use Rattle.one_scope.specs.Entries.{Entry}
-use Rattle.one_scope.specs.Flat.{declared_names, flat_slot, keeps_all, slot_owners}
-use Rattle.name_rules.specs.Kept.{is_reserved}
-use Rattle.name_rules.specs.Options.{Options}
 use Rattle.tree_nodes.specs.Tree.{Text}
 use Rattle.scope_rules.specs.Bindings.{or_else}
 use Rattle.scope_rules.specs.Homes.{is_declaring}
 use Rattle.scope_rules.specs.PrivateNames.{distinct, is_among}
+use Rattle.name_rules.specs.Kept.{is_reserved}
+use Rattle.name_rules.specs.Options.{Options}
+use Rattle.one_scope.proofs.Distinct.{AllApart, among_distinct, among_filter, distinct_apart, distinct_less, distinct_more, slot_more, slot_some}
+use Rattle.one_scope.proofs.Texts.{put_none, seen_more}
+use Rattle.one_scope.specs.Entries.{Entry}
+use Rattle.one_scope.specs.Flat.{declared_names, flat_slot, keeps_all, slot_owners}
 
 -- the names that declaring places declare
 unfoldable pub declared : List Entry → List Text
@@ -30,7 +30,6 @@ declared_more es e b h = ap (map (λ f. f.name)) (filter-append (λ f. is_declar
     go : (c : Bool) → is_declaring e.role ≡ c → map (λ f. f.name) (filter (λ f. is_declaring f.role) (e ∷ [])) ≡ (if c then e.name ∷ [] else [])
     go true q = rw q refl
     go false q = rw q refl
-
 
 -- a place that doesn't declare, and one that declares a reserved name, give none
 pub open_passed : (o : Options) (es : List Entry) (e : Entry) → is_declaring e.role ≡ false → open_names o (es ++ e ∷ []) ≡ open_names o es

@@ -1,26 +1,25 @@
 -- The names that must not be given, gathered in a guard.
-use Rattle.std.specs.Prelude.{◌≡◌, ◌≤◌, ◌<◌, ℕ, zero, suc, ◌+◌, Bool, true, false, not, ◌&&◌, ◌||◌, List, [], ◌∷◌, ◌++◌, length, get_or, map, take, Option, None, is_some, bytes_eq, if◌then◌else◌}
 use Rattle.std.specs.List.{list_any}
+use Rattle.std.specs.Prelude.{◌≡◌, ◌≤◌, ◌<◌, ℕ, zero, suc, ◌+◌, Bool, true, false, not, ◌&&◌, ◌||◌, List, [], ◌∷◌, ◌++◌, length, get_or, map, take, Option, None, is_some, bytes_eq, if◌then◌else◌}
 use Rattle.std.proofs.Common.{refl, sym, ap, ◌∙◌, arith, take_all}
+use Rattle.std.proofs.Math.Bool.{or-false}
 use Rattle.std.proofs.lemmas.List.{length-map}
 use Rattle.std.proofs.lemmas.List.Folds.{list_any-append}
-use Rattle.std.proofs.Math.Bool.{or-false}
 use Rattle.list_laws.proofs.Tests.{told}
+use Rattle.syntax_lex.specs.Keyword.{is_reserved_keyword}
+use Rattle.tree_nodes.specs.Tree.{Text}
+use Rattle.scope_rules.specs.Bindings.{same_name}
+use Rattle.scope_rules.specs.Evals.{name_eval}
+use Rattle.scope_rules.specs.PrivateNames.{is_among}
+use Rattle.name_rules.specs.Kept.{name_arguments}
+use Rattle.name_rules.specs.Options.{Options}
+use Rattle.oxc_mangler.specs.Guard.{HasAlso, is_never_given, is_refused}
 use Rattle.one_scope.proofs.Distinct.{slot_some}
 use Rattle.one_scope.proofs.Texts.{same_sym, seen_more}
 use Rattle.one_scope.specs.Entries.{Entry}
 use Rattle.one_scope.specs.Flat.{flat_slot, is_taken_flat}
 use Rattle.one_scope.specs.Open.{all_open}
 use Rattle.one_scope.specs.Steps.{keeps_name}
-use Rattle.oxc_mangler.specs.Guard.{HasAlso, is_never_given, is_refused}
-use Rattle.name_rules.specs.Kept.{name_arguments}
-use Rattle.name_rules.specs.Options.{Options}
-use Rattle.syntax_lex.specs.Keyword.{is_reserved_keyword}
-use Rattle.tree_nodes.specs.Tree.{Text}
-use Rattle.scope_rules.specs.Bindings.{same_name}
-use Rattle.scope_rules.specs.Evals.{name_eval}
-use Rattle.scope_rules.specs.PrivateNames.{is_among}
-
 
 or_assoc : (a b c : Bool) → ((a || b) || c) ≡ (a || (b || c))
 or_assoc true b c = refl

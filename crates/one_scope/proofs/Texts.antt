@@ -50,8 +50,6 @@ module _ {X : Type 0} (f : Text → Option X) (x y : Text) where
       go false e None p = refl
       go false e (Some u) p = refl
 
-
-
 pub put_absent : {X : Type 0} (f : Text → Option X) (x y : Text) (v : X) → is_some (f x) ≡ false → cond (bytes_eq x y) (Some v) (f y) ≡ or_else (f y) (if bytes_eq x y then Some v else None)
 put_absent f x y v h = put_new f x y v (none_told (f x) h)
 

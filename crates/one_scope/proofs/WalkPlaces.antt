@@ -2,10 +2,6 @@
 use Rattle.std.proofs.Common.{◌≡◌, ℕ, suc, List, [], ◌∷◌, ◌++◌, map, reverse, cond, if◌then◌else◌, refl, sym, ap, ap₂, subst, ◌∙◌}
 use Rattle.std.proofs.lemmas.Grind.{reverse_onto}
 use Rattle.std.proofs.lemmas.List.{append-nil, append_assoc, map-append}
-use Rattle.tree_places.proofs.MarkedSettings.{mark_keeps_role}
-use Rattle.one_scope.specs.Entries.{Entry, entries, entry_of}
-use Rattle.one_scope.specs.Listing.{Listing, list_run, list_under, meet, nothing_listed}
-use Rattle.one_scope.specs.Open.{all_open}
 use Rattle.tree_nodes.specs.Along.{Along, all, each, first_column, other_columns}
 use Rattle.tree_nodes.specs.Roles.{role_at}
 use Rattle.tree_nodes.specs.Table.{Column, row, unlisted}
@@ -18,8 +14,12 @@ use Rattle.tree_nodes.specs.declared.table.Opens.{Opens}
 use Rattle.tree_nodes.specs.declared.table.Opens.TheVariants.{NameHere, PrivateNameHere}
 use Rattle.tree_nodes.specs.declared.table.Role.{Role}
 use Rattle.tree_nodes.specs.declared.table.Role.TheVariants.{Plain, Read}
+use Rattle.tree_places.proofs.MarkedSettings.{mark_keeps_role}
 use Rattle.tree_places.specs.Places.{Around, Seen, Setting, Site, at_field, before_all, enter, hide, is_place, met, named_by, names, nothing_yet, sites, unmarked, walk, with_mark}
 use Rattle.tree_places.specs.Scopes.{Scope}
+use Rattle.one_scope.specs.Entries.{Entry, entries, entry_of}
+use Rattle.one_scope.specs.Listing.{Listing, list_run, list_under, meet, nothing_listed}
+use Rattle.one_scope.specs.Open.{all_open}
 
 -- ---- a role doesn't look at what is hidden
 
@@ -94,7 +94,6 @@ met_follows PrivateNameHere b e inner s x l f = record {
   spots = pushed l.entries s.sites _ _ f.spots (ap (λ n. (n, e.role)) f.nodes);
 }
 met_follows _ b e inner s x l f = record { nodes = ap suc f.nodes; spots = f.spots }
-
 
 field_role : (c : Column) (a : Around) → (at_field c a).role ≡ role_at c.mode a.outside.role a.fields
 unfolding all_open

@@ -1,21 +1,21 @@
 -- How often the slots are referred to, counted by one pass.
-use Rattle.std.specs.Prelude.{◌≡◌, ◌≤◌, ◌<◌, ℕ, zero, suc, ◌+◌, Bool, true, false, cond, ◌&&◌, List, [], ◌∷◌, ◌++◌, length, get_or, map, take, filter, Option, Some, None, bytes_eq, slice_index, if◌then◌else◌, IfSome, replicate}
 use Rattle.std.specs.List.{position_from}
+use Rattle.std.specs.Prelude.{◌≡◌, ◌≤◌, ◌<◌, ℕ, zero, suc, ◌+◌, Bool, true, false, cond, ◌&&◌, List, [], ◌∷◌, ◌++◌, length, get_or, map, take, filter, Option, Some, None, bytes_eq, slice_index, if◌then◌else◌, IfSome, replicate}
 use Rattle.std.proofs.Common.{refl, sym, ap, ◌∙◌, arith, subst}
 use Rattle.std.proofs.lemmas.List.{length-append, length-map, map-append}
 use Rattle.std.proofs.lemmas.List.Elements.{filter-append}
-use Rattle.list_laws.proofs.Tests.{none_some, some_one}
+use Rattle.list_laws.proofs.AllOf.{AllOf}
 use Rattle.list_laws.proofs.Filtered.{filter_most}
+use Rattle.list_laws.proofs.Tests.{none_some, some_one}
+use Rattle.tree_nodes.specs.Tree.{Text}
+use Rattle.scope_rules.specs.Bindings.{same_name}
+use Rattle.scope_rules.specs.Homes.{is_reference}
 use Rattle.one_scope.proofs.Distinct.{AllApart}
 use Rattle.one_scope.proofs.Texts.{same_is, same_sym, seen_more}
 use Rattle.one_scope.specs.Entries.{Entry}
 use Rattle.one_scope.specs.Flat.{flat_slot, flat_weight}
 use Rattle.one_scope.specs.Open.{all_open}
 use Rattle.one_scope.specs.Steps.{one_more_at}
-use Rattle.tree_nodes.specs.Tree.{Text}
-use Rattle.list_laws.proofs.AllOf.{AllOf}
-use Rattle.scope_rules.specs.Bindings.{same_name}
-use Rattle.scope_rules.specs.Homes.{is_reference}
 
 -- ---- with one place more
 

@@ -32,7 +32,6 @@ module _ (name : ℕ → Text) where
   unfolding all_open
   when_untaken taken fuel n k h = ap (λ (b : Bool). elim b as (λ c. List Text) [ true ↦ first_untaken name taken fuel (suc n) (suc k) | false ↦ name k ∷ first_untaken name taken fuel n (suc k) ]) h
 
-
 -- ---- one candidate after another
 
 module _ (inserted : List Text) (readable : Bool) (n : ℕ) where

@@ -3,22 +3,22 @@ use Rattle.std.specs.Prelude.{◌≡◌, ◌⊎◌, ◌≤◌, ◌<◌, ℕ, zer
 use Rattle.std.proofs.Common.{refl, sym, ap, subst, arith, inl, inr}
 use Rattle.std.proofs.lemmas.Bool.{or_cases}
 use Rattle.std.proofs.lemmas.List.{length-append}
-use Rattle.list_laws.proofs.AnyOf.{any_some}
-use Rattle.list_laws.proofs.PairsOf.{PairsOf}
-use Rattle.scope_rules.proofs.SameNames.{same_name_tells, among_in}
-use Rattle.syntax_lex.specs.Keyword.{is_reserved_keyword, reserved_keywords}
-use Rattle.list_laws.proofs.Counting.{no_more}
-use Rattle.name_rules.proofs.ShortNumbers.{short_is_one_to_one}
-use Rattle.oxc_mangler.specs.Guard.{is_never_given, is_refused}
-use Rattle.name_rules.specs.Kept.{name_arguments}
-use Rattle.name_rules.specs.Open.{all_open}
-use Rattle.name_rules.specs.ShortNames.{short}
-use Rattle.tree_nodes.specs.Tree.{Text}
 use Rattle.list_laws.proofs.AllOf.{AllOf}
+use Rattle.list_laws.proofs.AnyOf.{any_some}
+use Rattle.list_laws.proofs.Counting.{no_more}
 use Rattle.list_laws.proofs.Members.{In, in_left, in_right}
+use Rattle.list_laws.proofs.PairsOf.{PairsOf}
+use Rattle.syntax_lex.specs.Keyword.{is_reserved_keyword, reserved_keywords}
+use Rattle.tree_nodes.specs.Tree.{Text}
+use Rattle.scope_rules.proofs.SameNames.{same_name_tells, among_in}
 use Rattle.scope_rules.specs.Bindings.{same_name}
 use Rattle.scope_rules.specs.Evals.{name_eval}
 use Rattle.scope_rules.specs.PrivateNames.{is_among}
+use Rattle.name_rules.proofs.ShortNumbers.{short_is_one_to_one}
+use Rattle.name_rules.specs.Kept.{name_arguments}
+use Rattle.name_rules.specs.Open.{all_open}
+use Rattle.name_rules.specs.ShortNames.{short}
+use Rattle.oxc_mangler.specs.Guard.{is_never_given, is_refused}
 
 -- ---- names with numbers that follow one another
 

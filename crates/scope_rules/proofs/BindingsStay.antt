@@ -1,20 +1,19 @@
 -- Where new names keep apart what the old ones did, each place has the binding that it had.
-use Rattle.std.specs.Prelude.{◌≡◌, ◌⊎◌, ℕ, suc, ◌≤◌, Bool, true, false, not, ◌&&◌, List, [], ◌∷◌, map, find, Option, Some, None}
-use Rattle.std.proofs.Common.{refl, sym, ap, ◌∙◌, subst, arith, inl, inr}
+use Rattle.std.specs.Prelude.{◌≡◌, ◌⊎◌, ℕ, Bool, true, false, not, ◌&&◌, List, [], ◌∷◌, map, find, Option, Some, None}
+use Rattle.std.proofs.Common.{refl, sym, ap, ◌∙◌, subst, inl, inr}
 use Rattle.std.proofs.lemmas.Bool.{or_cases, or_left, or_right, and_parts, and_from, both_ways, eq-eqb}
 use Rattle.std.proofs.lemmas.Simd.{map-map}
-use Rattle.scope_rules.proofs.PlacesRise.{one_place}
-use Rattle.list_laws.proofs.Tests.{none_some, some_one, tested, told}
-use Rattle.list_laws.proofs.Mapped.{map_same}
 use Rattle.list_laws.proofs.AnyOf.{any_from}
 use Rattle.list_laws.proofs.FirstOf.{First, find_first, find_map, find_none, find_same_first}
+use Rattle.list_laws.proofs.Mapped.{map_same}
+use Rattle.list_laws.proofs.Members.{In, contains_from_in, in_from_Contains}
+use Rattle.list_laws.proofs.Tests.{none_some, some_one, tested, told}
 use Rattle.tree_nodes.specs.declared.table.Role.{Role}
 use Rattle.tree_nodes.specs.declared.table.Role.TheVariants.{Called, Declares, MemberKey, Plain, Read, ReadWrite, Write}
 use Rattle.tree_places.proofs.Outwards.{inside_parent, inside_refl, same_scope_eq, same_scope_refl}
-use Rattle.tree_places.specs.Laws.{RiseFrom}
 use Rattle.tree_places.specs.Places.{Named, Site}
 use Rattle.tree_places.specs.Scopes.{Scope, first_outwards, is_inside, same_scope}
-use Rattle.list_laws.proofs.Members.{In, contains_from_in, in_from_Contains}
+use Rattle.scope_rules.proofs.PlacesRise.{one_place}
 use Rattle.scope_rules.specs.Bindings.{at_home, binder, binding, bindings, declares_at, is_node, names_function_at, node, node_of, or_else, plain_binder}
 use Rattle.scope_rules.specs.Homes.{declares, declares_plainly, home, is_declaring, is_function_name, is_reference, names_function, refers}
 use Rattle.scope_rules.specs.Open.{all_open}
@@ -64,10 +63,6 @@ declares_plain s d f = rw d (flip (is_function_name s.setting.role) (rest (decla
     rest : (a b : Bool) → a ≡ true → (a && b) ≡ false → b ≡ false
     rest true b e h = h
     rest false b e h = absurd (both_ways false refl e)
-
--- ---- places stand in the order of their numbers, so a number tells the place
-
-
 
 -- ---- what binders find
 

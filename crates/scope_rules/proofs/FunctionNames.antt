@@ -1,32 +1,29 @@
 -- No two function-names have one home, where each function expression has one name at most: its scope is new when it is met.
-use Rattle.std.specs.Prelude.{◌≡◌, ◌⊎◌, ℕ, zero, suc, ◌<◌, Bool, true, false, cond, not, ◌&&◌, ◌||◌, List, [], ◌∷◌, length, reverse}
 use Rattle.std.specs.List.{list_all, list_any}
+use Rattle.std.specs.Prelude.{◌≡◌, ◌⊎◌, ℕ, ◌<◌, Bool, true, false, cond, not, ◌&&◌, ◌||◌, List, [], ◌∷◌, length, reverse}
 use Rattle.std.proofs.Common.{refl, sym, ap, ◌∙◌, subst, arith, inl, inr}
 use Rattle.std.proofs.lemmas.Bool.{and_parts, and_from, both_ways, not-true}
 use Rattle.std.proofs.lemmas.Grind.{reverse_onto}
-use Rattle.scope_rules.proofs.GivenRoles.{hands_on, no_role, IsNarrow, given_by_field, gives}
-use Rattle.tree_places.proofs.MarkedSettings.{mark_keeps_role, mark_keeps_scope}
-use Rattle.list_laws.proofs.Tests.{tested}
+use Rattle.list_laws.proofs.AllOf.{AllOf, AllOf_weaken, AllOf_reverse}
 use Rattle.list_laws.proofs.AnyOf.{any_some}
+use Rattle.list_laws.proofs.Members.{In}
 use Rattle.list_laws.proofs.PairsOf.{PairsOf, PairsOf_push}
+use Rattle.list_laws.proofs.Tests.{tested}
 use Rattle.tree_nodes.specs.Along.{Along, all, each, first_column, other_columns}
-use Rattle.tree_nodes.specs.Roles.{declared_by, role_at, written_by}
 use Rattle.tree_nodes.specs.Table.{Column, row, unlisted}
-use Rattle.tree_nodes.specs.Tree.{Parts, atom, child, done, flag_of, is_empty, many, part, word_of}
+use Rattle.tree_nodes.specs.Tree.{Parts, atom, child, done, many}
 use Rattle.tree_nodes.specs.declared.kind.Kind.{Kind}
 use Rattle.tree_nodes.specs.declared.kind.Kind.TheVariants.{Program, Hashbang, ExpressionStatement, BlockStatement, EmptyStatement, DebuggerStatement, ThisExpression, Super, ReturnStatement, ThrowStatement, LabeledStatement, BreakStatement, ContinueStatement, IfStatement, SwitchStatement, SwitchCase, TryStatement, CatchClause, WhileStatement, DoWhileStatement, ForStatement, ForInStatement, ForOfStatement, WithStatement, VariableDeclaration, VariableDeclarator, FunctionDeclaration, FunctionExpression, ArrowFunctionExpression, ClassDeclaration, ClassExpression, ClassBody, MethodDefinition, PropertyDefinition, StaticBlock, ArrayExpression, ObjectExpression, Property, SpreadElement, RestElement, UnaryExpression, UpdateExpression, BinaryExpression, LogicalExpression, AssignmentExpression, ConditionalExpression, CallExpression, NewExpression, MemberExpression, ChainExpression, SequenceExpression, YieldExpression, AwaitExpression, ImportExpression, MetaProperty, TemplateLiteral, TaggedTemplateExpression, TemplateElement, ObjectPattern, ArrayPattern, AssignmentPattern, Identifier, PrivateIdentifier, Literal, ImportDeclaration, ImportSpecifier, ImportDefaultSpecifier, ImportNamespaceSpecifier, ImportAttribute, ExportNamedDeclaration, ExportSpecifier, ExportDefaultDeclaration, ExportAllDeclaration}
-use Rattle.tree_nodes.specs.declared.table.Mode.{Mode}
-use Rattle.tree_nodes.specs.declared.table.Mode.TheVariants.{ByKind, ByOperator, Gives, Leaves, NamesExpression, NamesFunction, Same, UnlessComputed, UnlessOptional, UnlessSource}
+use Rattle.tree_nodes.specs.declared.table.Declared.TheVariants.{FunctionName}
 use Rattle.tree_nodes.specs.declared.table.Opens.{Opens}
 use Rattle.tree_nodes.specs.declared.table.Opens.TheVariants.{NameHere, PrivateNameHere}
-use Rattle.tree_nodes.specs.declared.table.Declared.TheVariants.{FunctionName}
 use Rattle.tree_nodes.specs.declared.table.Role.{Role}
-use Rattle.tree_nodes.specs.declared.table.Role.TheVariants.{Called, Declares, Plain, Read, ReadWrite, Write}
+use Rattle.tree_nodes.specs.declared.table.Role.TheVariants.{Declares}
+use Rattle.tree_places.proofs.MarkedSettings.{mark_keeps_role, mark_keeps_scope}
 use Rattle.tree_places.proofs.Outwards.{same_scope_eq}
-use Rattle.list_laws.proofs.AllOf.{AllOf, AllOf_weaken, AllOf_reverse}
 use Rattle.tree_places.specs.Places.{Around, Seen, Setting, Site, at_field, before_all, enter, hide, met, nothing_yet, seen, side, sites, strict_in, walk}
 use Rattle.tree_places.specs.Scopes.{Scope, same_scope}
-use Rattle.list_laws.proofs.Members.{In}
+use Rattle.scope_rules.proofs.GivenRoles.{hands_on, no_role, IsNarrow, given_by_field, gives}
 use Rattle.scope_rules.proofs.VarScopes.{After, AllFit, Below, Fits, Met, field_fits, fits_more, met_fits, then_after, walk_fits}
 use Rattle.scope_rules.specs.FunctionNames.{FunctionNamesStandApart, begins_with_name, is_function_expression, is_identifier_kind, names_functions_once}
 use Rattle.scope_rules.specs.Homes.{home, is_function_name, is_var, names_function}
@@ -34,7 +31,6 @@ use Rattle.scope_rules.specs.Open.{all_open}
 use Rattle.scope_rules.specs.Separation.{function_names_apart}
 
 -- ---- which fields give the role of a function-name
-
 
 is_function_name_narrow : IsNarrow is_function_name
 unfolding all_open
@@ -134,12 +130,6 @@ is_name_kind : (k : Kind) → is_identifier_kind k ≡ true → k ≡ Identifier
 unfolding all_open
 is_name_kind Identifier e = refl
 is_name_kind _ e = no_role e
-
-
-
-
-
-
 
 -- what a quiet field gives is no function-name
 quiet_role : (c : Column) (a : Around) → is_quiet (is_function_name a.outside.role) c ≡ true → is_function_name (at_field c a).role ≡ false

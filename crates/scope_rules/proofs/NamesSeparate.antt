@@ -1,24 +1,21 @@
 -- In a tree without a crossing two bindings that are in use together and have one name are a function-name and its shadower.
-use Rattle.std.specs.Prelude.{◌≡◌, ◌⊎◌, ℕ, Bool, true, false, cond, not, ◌||◌, ◌&&◌, List, [], ◌∷◌, length, map, Option, Some, None}
 use Rattle.std.specs.List.{list_any}
-use Rattle.std.proofs.Common.{refl, sym, ap, ◌∙◌, subst, arith, inl, inr}
+use Rattle.std.specs.Prelude.{◌≡◌, ◌⊎◌, ℕ, Bool, true, false, cond, not, ◌||◌, ◌&&◌, List, [], ◌∷◌, map, Option, Some, None}
+use Rattle.std.proofs.Common.{refl, sym, ap, ◌∙◌, subst, inl, inr}
 use Rattle.std.proofs.lemmas.Bool.{or_cases, or_left, or_right, and_parts, and_from, both_ways, eqb-true}
-use Rattle.std.proofs.lemmas.Slice.Eq.{bytes_eq-Decides}
-use Rattle.scope_rules.proofs.SameNames.{same_name_tells}
-use Rattle.scope_rules.proofs.PlacesRise.{one_place, places_rise, site_in}
-use Rattle.list_laws.proofs.Tests.{none_some, some_one, tested, told}
 use Rattle.list_laws.proofs.AnyOf.{any_from, any_some}
-use Rattle.tree_nodes.specs.Tree.{Parts}
+use Rattle.list_laws.proofs.Members.{In, in_from_Contains}
+use Rattle.list_laws.proofs.Tests.{none_some, some_one, tested, told}
 use Rattle.tree_nodes.specs.declared.table.Declared.TheVariants.{Function, FunctionName, Param, Var}
 use Rattle.tree_nodes.specs.declared.table.Role.{Role}
 use Rattle.tree_nodes.specs.declared.table.Role.TheVariants.{Declares}
 use Rattle.tree_places.proofs.Outwards.{inside_antisym, same_scope_eq, same_scope_refl}
-use Rattle.tree_places.proofs.Rising.{numbers_rise}
 use Rattle.tree_places.specs.Laws.{RiseFrom}
-use Rattle.tree_places.specs.Places.{Named, Place, Site, named_by, names, places, sites}
+use Rattle.tree_places.specs.Places.{Named, Place, Site, places, sites}
 use Rattle.tree_places.specs.Scopes.{Scope, any_below, first_outwards, is_inside, same_scope}
-use Rattle.list_laws.proofs.Members.{In, in_from_Contains}
 use Rattle.scope_rules.proofs.BindingsStay.{At, Owner, binder_source, binding_plain, binding_refers, binding_source, binds, declares_plain, owner}
+use Rattle.scope_rules.proofs.PlacesRise.{one_place, places_rise, site_in}
+use Rattle.scope_rules.proofs.SameNames.{same_name_tells}
 use Rattle.scope_rules.proofs.VarScopes.{Pinned, hoisted, is_pinned, pinned}
 use Rattle.scope_rules.specs.Bindings.{binder, binding, is_node, node, plain_binder, same_name, shadower}
 use Rattle.scope_rules.specs.Faults.{crosses, has_crossing, is_single_at}
@@ -209,11 +206,6 @@ apart_sites (s ∷ ss) p q h i j f g e = go i j (apart_sites ss p q (and_parts _
     go (inl a) (inr b) ih = absurd (no q b (subst (λ (x : Site). names_function x ≡ true) (sym a) f) g (sym e ∙ ap home (sym a)))
     go (inr a) (inl b) ih = absurd (no p a (subst (λ (x : Site). names_function x ≡ true) (sym b) g) f (e ∙ ap home (sym b)))
     go (inr a) (inr b) ih = ih a b f g e
-
-
-
-
-
 
 pub names_separate : NamesSeparate
 unfolding all_open

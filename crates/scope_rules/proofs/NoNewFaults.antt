@@ -1,15 +1,15 @@
 -- Where new names keep apart what the old ones did, no fault is new.
-use Rattle.std.specs.Prelude.{◌≡◌, ◌⊎◌, ℕ, Bool, true, false, not, ◌||◌, ◌&&◌, List, [], ◌∷◌, map, Option, Some, None, is_some}
 use Rattle.std.specs.List.{list_any}
+use Rattle.std.specs.Prelude.{◌≡◌, ◌⊎◌, ℕ, Bool, true, false, not, ◌||◌, ◌&&◌, List, [], ◌∷◌, map, Option, Some, None, is_some}
 use Rattle.std.proofs.Common.{refl, sym, ap, ◌∙◌, subst, inl, inr}
 use Rattle.std.proofs.lemmas.Bool.{or_cases, or_left, or_right, and_parts, and_from, both_ways, eq-eqb}
 use Rattle.std.proofs.lemmas.Simd.{map-map}
-use Rattle.list_laws.proofs.Mapped.{map_same, maps_agree}
 use Rattle.list_laws.proofs.AnyOf.{any_from, any_map, any_same, any_some}
+use Rattle.list_laws.proofs.Mapped.{map_same, maps_agree}
+use Rattle.list_laws.proofs.Members.{In, contains_from_in}
 use Rattle.tree_places.proofs.Outwards.{inside_parent, inside_refl, same_scope_eq}
 use Rattle.tree_places.specs.Places.{Named}
 use Rattle.tree_places.specs.Scopes.{Scope, any_below, is_inside, same_scope}
-use Rattle.list_laws.proofs.Members.{In, contains_from_in}
 use Rattle.scope_rules.proofs.BindingsStay.{Owner, binding_stays, owner, plainly, was_named}
 use Rattle.scope_rules.specs.Bindings.{Bound, at_home, binding, bound, declares_at, is_node, node}
 use Rattle.scope_rules.specs.Faults.{binds_in, crosses, declares_in_head, has_crossing, has_reach, has_redeclaration, has_sloppy_function, has_undeclared, is_of_body, is_single_at, is_sloppy_function, is_undeclared, reaches_body, redeclares}

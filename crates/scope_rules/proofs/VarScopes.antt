@@ -1,33 +1,28 @@
 -- Of each tree: the var scope of a place is the nearest var scope outwards, whichever place is asked, and parameters and function-names stand in one.
-use Rattle.std.specs.Prelude.{◌≡◌, ◌⊎◌, ℕ, zero, suc, ◌<◌, ◌≤◌, Bool, true, false, cond, not, ◌&&◌, ◌||◌, nat_eq, List, [], ◌∷◌, length, reverse}
 use Rattle.std.specs.List.{list_all}
+use Rattle.std.specs.Prelude.{◌≡◌, ◌⊎◌, ℕ, suc, ◌<◌, ◌≤◌, Bool, true, false, cond, not, ◌&&◌, ◌||◌, nat_eq, List, [], ◌∷◌, length}
 use Rattle.std.proofs.Common.{refl, sym, ap, ◌∙◌, subst, arith, inl, inr}
 use Rattle.std.proofs.lemmas.Bool.{or_cases, and_parts, both_ways, eq-eqb, ne_eqb, not-true}
-use Rattle.std.proofs.lemmas.Grind.{reverse_onto}
-use Rattle.scope_rules.proofs.GivenRoles.{IsNarrow, given_by_field, gives, hands_on, no_role}
-use Rattle.tree_places.proofs.MarkedSettings.{inner_setting, mark_keeps_role, mark_keeps_scope, mark_keeps_var_scope}
+use Rattle.list_laws.proofs.AllOf.{AllOf, AllOf_reverse, AllOf_weaken, of_each}
+use Rattle.list_laws.proofs.Members.{In}
 use Rattle.tree_nodes.specs.Along.{Along, all, each, first_column, other_columns}
-use Rattle.tree_nodes.specs.Roles.{declared_by, role_at, written_by}
+use Rattle.tree_nodes.specs.Roles.{role_at}
 use Rattle.tree_nodes.specs.Table.{Column, row, unlisted}
-use Rattle.tree_nodes.specs.Tree.{Parts, atom, child, done, flag_of, is_empty, many, part, word_of}
+use Rattle.tree_nodes.specs.Tree.{Parts, atom, child, done, many}
 use Rattle.tree_nodes.specs.declared.kind.Kind.{Kind}
 use Rattle.tree_nodes.specs.declared.kind.Kind.TheVariants.{Program, Hashbang, ExpressionStatement, BlockStatement, EmptyStatement, DebuggerStatement, ThisExpression, Super, ReturnStatement, ThrowStatement, LabeledStatement, BreakStatement, ContinueStatement, IfStatement, SwitchStatement, SwitchCase, TryStatement, CatchClause, WhileStatement, DoWhileStatement, ForStatement, ForInStatement, ForOfStatement, WithStatement, VariableDeclaration, VariableDeclarator, FunctionDeclaration, FunctionExpression, ArrowFunctionExpression, ClassDeclaration, ClassExpression, ClassBody, MethodDefinition, PropertyDefinition, StaticBlock, ArrayExpression, ObjectExpression, Property, SpreadElement, RestElement, UnaryExpression, UpdateExpression, BinaryExpression, LogicalExpression, AssignmentExpression, ConditionalExpression, CallExpression, NewExpression, MemberExpression, ChainExpression, SequenceExpression, YieldExpression, AwaitExpression, ImportExpression, MetaProperty, TemplateLiteral, TaggedTemplateExpression, TemplateElement, ObjectPattern, ArrayPattern, AssignmentPattern, Identifier, PrivateIdentifier, Literal, ImportDeclaration, ImportSpecifier, ImportDefaultSpecifier, ImportNamespaceSpecifier, ImportAttribute, ExportNamedDeclaration, ExportSpecifier, ExportDefaultDeclaration, ExportAllDeclaration}
 use Rattle.tree_nodes.specs.declared.table.Declared.TheVariants.{FunctionName, Param}
-use Rattle.tree_nodes.specs.declared.table.Mark.{Mark}
-use Rattle.tree_nodes.specs.declared.table.Mark.TheVariants.{Usual}
-use Rattle.tree_nodes.specs.declared.table.Mode.{Mode}
-use Rattle.tree_nodes.specs.declared.table.Mode.TheVariants.{ByKind, ByOperator, Gives, Leaves, NamesExpression, NamesFunction, Same, UnlessComputed, UnlessOptional, UnlessSource}
 use Rattle.tree_nodes.specs.declared.table.Opens.{Opens}
 use Rattle.tree_nodes.specs.declared.table.Opens.TheVariants.{BareBlock, Block, ClassMembers, Hoisting, NameHere, Nothing, PrivateNameHere, WithBody}
 use Rattle.tree_nodes.specs.declared.table.Role.{Role}
-use Rattle.tree_nodes.specs.declared.table.Role.TheVariants.{Called, Declares, Plain, Read, ReadWrite, Write}
+use Rattle.tree_nodes.specs.declared.table.Role.TheVariants.{Declares}
+use Rattle.tree_places.proofs.MarkedSettings.{inner_setting, mark_keeps_role, mark_keeps_scope, mark_keeps_var_scope}
 use Rattle.tree_places.proofs.Outwards.{same_scope_eq}
-use Rattle.list_laws.proofs.AllOf.{AllOf, AllOf_push, AllOf_reverse, AllOf_weaken, of_each}
 use Rattle.tree_places.specs.Lineage.{opens_var_scope}
 use Rattle.tree_places.specs.Open.{all_open}
-use Rattle.tree_places.specs.Places.{Around, Seen, Setting, Site, at_field, before_all, enter, hide, met, nothing_yet, opened, seen, side, sites, strict_in, walk, with_mark}
+use Rattle.tree_places.specs.Places.{Around, Seen, Setting, Site, at_field, before_all, enter, hide, met, nothing_yet, opened, seen, side, sites, strict_in, walk}
 use Rattle.tree_places.specs.Scopes.{Scope, is_inside, same_scope}
-use Rattle.list_laws.proofs.Members.{In}
+use Rattle.scope_rules.proofs.GivenRoles.{IsNarrow, given_by_field, gives, hands_on, no_role}
 
 -- ---- the nearest scope outwards whose number is that of a var scope
 
@@ -48,9 +43,6 @@ pub record Fits (v : ℕ → Bool) (n : ℕ) (e : Setting) : Type 0 where
 
 abbrev pub AllFit : (ℕ → Bool) → ℕ → List Site → Type 0
 AllFit v n ss = AllOf (λ q. Fits v n q.setting) ss
-
-
-
 
 nearest_same : (u v : ℕ → Bool) (n : ℕ) (s : Scope) → Agree u v n → Below n s → nearest u s ≡ nearest v s
 nearest_same u v n [] f b = refl
@@ -95,10 +87,6 @@ pub record After (u : ℕ → Bool) (s s' : Seen) : Type 0 where
 pub record Met (u : ℕ → Bool) (s s' : Seen) (inner : Setting) : Type 0 where
   pub after : After u s s'
   pub inside : Fits after.vars (length s'.scopes) inner
-
-
-
-
 
 side_fits : (b : Bool) (v : ℕ → Bool) (n : ℕ) (a : Around) → Fits v n a.outside → Fits v n a.inside → Fits v n (side b a)
 unfolding all_open
@@ -232,8 +220,6 @@ is_pinned _ = false
 abbrev pub Pinned : Setting → Type 0
 Pinned e = is_pinned e.role ≡ true → e.scope ≡ e.var_scope
 
-
-
 is_pinned_narrow : IsNarrow is_pinned
 unfolding all_open
 is_pinned_narrow = record { plain = refl; read = refl; write = refl; read_write = refl; called = refl; variable = refl; lexical = refl; constant = refl; function = λ special. refl }
@@ -322,17 +308,10 @@ row_fits ExportSpecifier = refl
 row_fits ExportDefaultDeclaration = refl
 row_fits ExportAllDeclaration = refl
 
-
-
-
-
-
-
 -- what a column that fits says
 or_says : (a b : Bool) → (not a || b) ≡ true → a ≡ true → b ≡ true
 or_says true b h e = h
 or_says false b h e = no_role e
-
 
 side_pinned : (b : Bool) (a : Around) → b ≡ false → a.outside.scope ≡ a.outside.var_scope → (side b a).scope ≡ (side b a).var_scope
 unfolding all_open

@@ -2,6 +2,8 @@
 use Rattle.std.specs.Prelude.{◌≡◌, ℕ, Bool, true, false, cond, List, [], ◌∷◌, length, reverse}
 use Rattle.std.proofs.Common.{refl}
 use Rattle.std.proofs.lemmas.Bool.{or_right}
+use Rattle.std.proofs.lemmas.Grind.{reverse_onto}
+use Rattle.list_laws.proofs.AllOf.{AllOf, AllOf_push}
 use Rattle.tree_nodes.specs.Along.{Along, all, each, first_column, other_columns}
 use Rattle.tree_nodes.specs.Table.{Column, row, unlisted}
 use Rattle.tree_nodes.specs.Tree.{Parts, atom, child, done, many}
@@ -10,8 +12,6 @@ use Rattle.tree_nodes.specs.declared.table.Mark.TheVariants.{Usual}
 use Rattle.tree_nodes.specs.declared.table.Opens.{Opens}
 use Rattle.tree_nodes.specs.declared.table.Opens.TheVariants.{BareBlock, Block, ClassMembers, Hoisting, NameHere, Nothing, PrivateNameHere, WithBody}
 use Rattle.tree_places.proofs.Outwards.{inside_refl}
-use Rattle.list_laws.proofs.AllOf.{AllOf, AllOf_push}
-use Rattle.std.proofs.lemmas.Grind.{reverse_onto}
 use Rattle.tree_places.specs.Open.{all_open}
 use Rattle.tree_places.specs.Places.{Around, Seen, Setting, Site, at_field, before_all, enter, hide, met, nothing_yet, opened, seen, side, sites, strict_in, walk, with_mark}
 use Rattle.tree_places.specs.Scopes.{Scope, is_inside}

@@ -2,8 +2,8 @@
 use Rattle.std.specs.Prelude.{◌≡◌, ℕ, suc, ◌+◌, ◌<◌, ◌≤◌, Bool, true, false, cond, nat_lt, List, [], ◌∷◌, ◌++◌, length, map, reverse}
 use Rattle.std.proofs.Common.{refl, sym, ap, ◌∙◌, arith}
 use Rattle.std.proofs.lemmas.Grind.{reverse_onto}
-use Rattle.std.proofs.lemmas.List.{length-append, append_assoc, append-nil, map-append, reverse-reverse}
-use Rattle.tree_places.proofs.MarkedSettings.{mark_keeps_scope, mark_keeps_var_scope}
+use Rattle.std.proofs.lemmas.List.{length-append, append_assoc, append-nil, reverse-reverse}
+use Rattle.list_laws.proofs.AllOf.{AllOf, AllOf_append, AllOf_weaken}
 use Rattle.list_laws.proofs.Mapped.{map_reverse}
 use Rattle.tree_nodes.specs.Along.{Along, all, each, first_column, other_columns}
 use Rattle.tree_nodes.specs.Table.{Column, row, unlisted}
@@ -12,15 +12,13 @@ use Rattle.tree_nodes.specs.declared.table.Mark.{Mark}
 use Rattle.tree_nodes.specs.declared.table.Mark.TheVariants.{Body, Usual}
 use Rattle.tree_nodes.specs.declared.table.Opens.{Opens}
 use Rattle.tree_nodes.specs.declared.table.Opens.TheVariants.{BareBlock, Block, ClassMembers, Hoisting, NameHere, Nothing, PrivateNameHere, WithBody}
+use Rattle.tree_places.proofs.MarkedSettings.{mark_keeps_scope, mark_keeps_var_scope}
 use Rattle.tree_places.specs.Lineage.{Found, Line, Lineage, ancestor, at_side, count_nodes, found, found_by, is_bare, lines, lines_of, openers, openers_of, opens_scope, scope_by, scope_number, var_scope_by}
 use Rattle.tree_places.specs.Open.{all_open}
 use Rattle.tree_places.specs.Places.{Around, Seen, Setting, at_field, before_all, enter, hide, is_place, met, nothing_yet, opened, seen, side, sites, strict_in, walk, with_mark}
 use Rattle.tree_places.specs.Scopes.{Scope}
-use Rattle.list_laws.proofs.AllOf.{AllOf, AllOf_append, AllOf_weaken}
 
 -- ---- how many of the opening nodes come before a node
-
-
 
 abbrev Below : ℕ → List ℕ → Type 0
 Below n xs = AllOf (λ m. m < n) xs
@@ -89,8 +87,6 @@ openers_below (child k s e fields more) columns n =
 pub record Fits (whole : List ℕ) (e : Setting) (l : Lineage) : Type 0 where
   pub scope : e.scope ≡ scope_by whole l
   pub var_scope : e.var_scope ≡ var_scope_by whole l
-
-
 
 mark_bare : (k : Mark) (fields : Parts) (n : ℕ) (o : List ℕ) (e : Setting) → e.bare ≡ false → (with_mark k fields n o e).bare ≡ is_bare k
 unfolding all_open
@@ -307,7 +303,6 @@ pub onto_reverse : {X : Type 0} (xs ys : List X) → onto xs ys ≡ reverse xs +
 unfolding all_open
 onto_reverse [] ys = refl
 onto_reverse (x ∷ xs) ys = onto_reverse xs (x ∷ ys) ∙ sym (append_assoc (reverse xs) (x ∷ []) ys) ∙ ap (λ zs. zs ++ ys) (sym (reverse_onto xs x []))
-
 
 pub scopes_are_nearest : (t : Parts) → map found (sites t) ≡ map (found_by (openers_of t)) (lines_of t)
 unfolding all_open

@@ -1,9 +1,10 @@
 -- The class bodies around places are linked: what encloses a class body is the same from wherever it is seen.
-use Rattle.std.specs.Prelude.{◌≡◌, ◌⊎◌, ℕ, suc, ◌<◌, Bool, true, false, cond, List, [], ◌∷◌, length, reverse}
 use Rattle.std.specs.List.{list_any}
+use Rattle.std.specs.Prelude.{◌≡◌, ◌⊎◌, ℕ, suc, ◌<◌, Bool, true, false, cond, List, [], ◌∷◌, length, reverse}
 use Rattle.std.proofs.Common.{refl, sym, ap, ◌∙◌, subst, arith, inl, inr}
 use Rattle.std.proofs.lemmas.Bool.{or_cases, both_ways}
 use Rattle.std.proofs.lemmas.Grind.{reverse_onto}
+use Rattle.list_laws.proofs.AllOf.{AllOf, AllOf_push}
 use Rattle.tree_nodes.specs.Along.{Along, all, each, first_column, other_columns}
 use Rattle.tree_nodes.specs.Table.{Column, row, unlisted}
 use Rattle.tree_nodes.specs.Tree.{Parts, atom, child, done, many}
@@ -13,7 +14,6 @@ use Rattle.tree_nodes.specs.declared.table.Opens.{Opens}
 use Rattle.tree_nodes.specs.declared.table.Opens.TheVariants.{BareBlock, Block, ClassMembers, Hoisting, NameHere, Nothing, PrivateNameHere, WithBody}
 use Rattle.tree_places.proofs.Outwards.{same_scope_eq}
 use Rattle.tree_places.proofs.Rooted.{known_outwards}
-use Rattle.list_laws.proofs.AllOf.{AllOf, AllOf_push}
 use Rattle.tree_places.proofs.Walks.{Proper, known, known_first, known_more}
 use Rattle.tree_places.specs.Open.{all_open}
 use Rattle.tree_places.specs.Places.{Around, Seen, Setting, Site, at_field, before_all, enter, hide, met, nothing_yet, opened, seen, side, sites, strict_in, walk, with_mark}

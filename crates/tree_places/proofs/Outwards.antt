@@ -1,6 +1,5 @@
 -- Scopes as lists outwards: at or inside, and chains.
-use Rattle.std.specs.Prelude.{◌≡◌, ◌⊎◌, ℕ, Bool, true, List, [], ◌∷◌, length, ◌≤◌}
-use Rattle.std.specs.List.{list_any}
+use Rattle.std.specs.Prelude.{◌≡◌, ◌⊎◌, ℕ, true, [], ◌∷◌, length, ◌≤◌}
 use Rattle.std.proofs.Common.{refl, ap, subst, arith, inl, inr}
 use Rattle.std.proofs.lemmas.Bool.{or_cases, or_left, or_right, both_ways}
 use Rattle.std.proofs.lemmas.Slice.Eq.{bytes_eq-Decides}
@@ -54,7 +53,6 @@ chain (n ∷ ns) a b h k = go (or_cases _ _ h) (or_cases _ _ k) (chain ns a b)
     go (inl e) f ih = inl (subst (λ (x : Scope). is_inside x b ≡ true) (same_scope_eq (n ∷ ns) a e) k)
     go (inr e) (inl f) ih = inr (subst (λ (x : Scope). is_inside x a ≡ true) (same_scope_eq (n ∷ ns) b f) h)
     go (inr e) (inr f) ih = ih e f
-
 
 pub inside_length : (s r : Scope) → is_inside s r ≡ true → length r ≤ length s
 unfolding all_open

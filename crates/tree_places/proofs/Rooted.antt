@@ -1,13 +1,13 @@
 -- The scopes of a tree's places are among the tree's scopes.
-use Rattle.std.specs.Prelude.{◌≡◌, ◌⊎◌, true, false, List, [], ◌∷◌, ◌++◌, length, reverse}
 use Rattle.std.specs.List.{list_all, list_any}
+use Rattle.std.specs.Prelude.{◌≡◌, ◌⊎◌, true, false, List, [], ◌∷◌, ◌++◌, length, reverse}
 use Rattle.std.proofs.Common.{refl, ◌∙◌, subst, inl, inr}
 use Rattle.std.proofs.lemmas.Bool.{or_cases, or_left, or_right, and_parts, both_ways}
 use Rattle.std.proofs.lemmas.Grind.{reverse_onto}
+use Rattle.list_laws.proofs.AllOf.{AllOf, AllOf_push}
 use Rattle.tree_nodes.specs.Tree.{Parts}
 use Rattle.tree_places.proofs.Outwards.{same_scope_eq, same_scope_refl}
 use Rattle.tree_places.proofs.Rising.{tree_good}
-use Rattle.list_laws.proofs.AllOf.{AllOf, AllOf_push}
 use Rattle.tree_places.proofs.Walks.{Proper, known}
 use Rattle.tree_places.specs.Open.{all_open}
 use Rattle.tree_places.specs.Places.{Site, scopes, seen, sites}

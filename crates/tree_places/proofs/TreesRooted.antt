@@ -3,6 +3,7 @@ use Rattle.std.specs.Prelude.{◌≡◌, ℕ, Bool, true, false, cond, ◌&&◌,
 use Rattle.std.proofs.Common.{refl, sym, ap, ◌∙◌, subst}
 use Rattle.std.proofs.lemmas.Bool.{and_parts, both_ways, eqb-true}
 use Rattle.std.proofs.lemmas.Grind.{reverse_onto}
+use Rattle.list_laws.proofs.AllOf.{AllOf, AllOf_push}
 use Rattle.tree_nodes.specs.Along.{Along, all, each, first_column, other_columns}
 use Rattle.tree_nodes.specs.Kinds.{kind_at, kind_at-kind_number, kind_number}
 use Rattle.tree_nodes.specs.Roles.{role_at}
@@ -19,7 +20,6 @@ use Rattle.tree_nodes.specs.declared.table.Opens.{Opens}
 use Rattle.tree_nodes.specs.declared.table.Opens.TheVariants.{BareBlock, Hoisting, NameHere, Nothing, PrivateNameHere}
 use Rattle.tree_nodes.specs.declared.table.Role.{Role}
 use Rattle.tree_nodes.specs.declared.table.Role.TheVariants.{Plain}
-use Rattle.list_laws.proofs.AllOf.{AllOf, AllOf_push}
 use Rattle.tree_places.specs.Laws.{IsRooted}
 use Rattle.tree_places.specs.Open.{all_open}
 use Rattle.tree_places.specs.Places.{Around, Seen, Setting, Site, at_field, before_all, enter, hide, met, nothing_yet, opened, seen, side, strict_in, walk, with_mark}

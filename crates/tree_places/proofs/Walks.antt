@@ -1,22 +1,19 @@
 -- What holds of each walk: scopes are numbered in order, each scope's parent and each place's scope is among them, and there is one name for each site.
-use Rattle.std.specs.Prelude.{◌≡◌, ◌⊎◌, ℕ, suc, Bool, true, false, cond, ◌||◌, List, [], ◌∷◌, length, ⊤}
 use Rattle.std.specs.List.{list_any, list_all}
+use Rattle.std.specs.Prelude.{◌≡◌, ◌⊎◌, ℕ, suc, Bool, true, false, cond, ◌||◌, List, [], ◌∷◌, length, ⊤}
 use Rattle.std.proofs.Common.{refl, inl, inr}
-use Rattle.std.proofs.lemmas.Bool.{or_cases, or_left, or_right, and_parts, and_from}
-use Rattle.tree_places.proofs.MarkedSettings.{inner_setting, mark_keeps_scope}
+use Rattle.std.proofs.lemmas.Bool.{or_cases, or_left, or_right, and_from}
 use Rattle.list_laws.proofs.AnyOf.{all_weaken}
-use Rattle.tree_places.specs.Open.{all_open}
 use Rattle.tree_nodes.specs.Along.{Along, all, each, first_column, other_columns}
-use Rattle.tree_places.specs.Scopes.{Scope}
-use Rattle.tree_places.specs.Places.{Around, Setting, Seen, at_field, enter, hide, met, opened, side, strict_in, walk, with_mark}
 use Rattle.tree_nodes.specs.Table.{Column, row}
 use Rattle.tree_nodes.specs.Tree.{Parts, atom, child, done, many}
-use Rattle.tree_nodes.specs.declared.table.Mark.{Mark}
-use Rattle.tree_nodes.specs.declared.table.Mark.TheVariants.{Usual}
 use Rattle.tree_nodes.specs.declared.table.Opens.{Opens}
 use Rattle.tree_nodes.specs.declared.table.Opens.TheVariants.{BareBlock, Block, ClassMembers, Hoisting, NameHere, Nothing, PrivateNameHere, WithBody}
+use Rattle.tree_places.proofs.MarkedSettings.{inner_setting, mark_keeps_scope}
 use Rattle.tree_places.proofs.Outwards.{same_scope_refl}
-use Rattle.tree_places.specs.Scopes.{same_scope}
+use Rattle.tree_places.specs.Open.{all_open}
+use Rattle.tree_places.specs.Places.{Around, Setting, Seen, at_field, enter, hide, met, side, strict_in, walk}
+use Rattle.tree_places.specs.Scopes.{same_scope, Scope}
 
 -- a scope of the list, or none at all
 abbrev pub known : List Scope → Scope → Bool
@@ -50,8 +47,6 @@ pub known_first : (ss : List Scope) (n : Scope) → known (n ∷ ss) n ≡ true
 unfolding all_open
 known_first ss n = or_right _ _ (or_left _ _ (same_scope_refl n))
 
-
-
 side_known : (b : Bool) (a : Around) (s : Seen) → Good a s → known s.scopes (side b a).scope ≡ true
 unfolding all_open
 side_known true a s g = g.inside
@@ -78,7 +73,6 @@ opened_step : (s : Seen) (e : Setting) → known s.scopes e.scope ≡ true → P
     → Stepped s (record s { nodes = suc s.nodes; scopes = (length s.scopes ∷ e.scope) ∷ s.scopes })
 unfolding all_open
 opened_step s e k p h = record { proper = next s e k p; grows = λ x. known_more s.scopes (length s.scopes ∷ e.scope) x; placed = more_placed s (length s.scopes ∷ e.scope) h }
-
 
 met_step : (o : Opens) (b : ℕ) (e : Setting) (strict : Bool) (s : Seen) → known s.scopes e.scope ≡ true → Proper s.scopes → list_all (λ x. known s.scopes x.setting.scope) s.sites ≡ true
     → Stepped s (met o b e (inner_setting o e strict s).scope s) × (known (met o b e (inner_setting o e strict s).scope s).scopes (inner_setting o e strict s).scope ≡ true)

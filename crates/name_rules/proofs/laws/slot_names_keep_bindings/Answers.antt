@@ -1,5 +1,4 @@
 use Rattle.scope_rules.proofs.SameNames.{same_name_tells}
-use Rattle.scope_rules.proofs.SameNames.{same_name_tells}
 use Rattle.name_rules.proofs.SlotNamesKeepApart as given
 use Rattle.name_rules.specs.SlotNames.{named_by_slot}
 use Rattle.name_rules.proofs.laws.slot_names_keep_bindings.Goals as goal

@@ -1,5 +1,5 @@
-use Rattle.std.specs.Prelude.{Bool, not, ◌||◌, map}
 use Rattle.std.specs.List.{list_any}
+use Rattle.std.specs.Prelude.{Bool, not, ◌||◌, map}
 use Rattle.std.proofs.Common.{sym, ap, ◌∙◌}
 use Rattle.list_laws.proofs.AnyOf.{any_map}
 use Rattle.one_scope.specs.EntryViews.{entry_view}
