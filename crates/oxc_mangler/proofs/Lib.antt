@@ -2,7 +2,6 @@
 pub mod Guarded
 pub mod NextNames
 pub mod FirstFree
-
 -- which slot gets which
 pub mod Queues
 pub mod HandedOut
