@@ -1,10 +1,9 @@
-use Rattle.scope_rules.specs.Bindings.{Bound}
 use Rattle.name_rules.specs.Mangled.{IsMangled}
 use Rattle.name_rules.specs.Options.{Options}
 use Rattle.std.specs.Prelude.{List, ◌∷◌}
 use Rattle.tree_nodes.specs.Tree.{Parts}
 use Rattle.worked_examples.proofs.judging.failing_refuses.Goals as goal
-use Rattle.worked_examples.specs.Judged.{Alike, Clause, FailsBy, Fewest, Free, Marked, One, Plain, Private, Stay}
+use Rattle.worked_examples.specs.Judged.{Alike, Bound, Clause, FailsBy, Fewest, Free, Marked, One, Plain, Private, Stay}
 
 refuses : (c : Clause) (cs : List Clause) (t : Parts) (o : Options) (u : Parts) → FailsBy (c ∷ cs) t o u → ¬ IsMangled t o u
 refuses Alike cs t o u f m = f.alike m.renamed.alike
