@@ -1,23 +1,29 @@
-pub mod Runs
-pub mod Apart
-pub mod Together
-pub mod Fewest
-pub mod Order
-pub mod Numbered
-pub mod Given
-pub mod Counting
-pub mod Passing
-pub mod PrivateChains
-pub mod Untaken
+-- numbers and short names
+pub mod CountFrom
+pub mod Greatest
+pub mod ShortNumbers
+pub mod Characters
+pub mod Identifiers
+-- groups and their slots
+pub mod GroupsStandApart
+pub mod LiveTogether
+pub mod SlotsAreFewest
+pub mod GroupsInOrder
+-- names that are given by slot
+pub mod SlotNamesKeepApart
+pub mod FirstUntaken
 pub mod Ranks
-pub mod SlotNamed
-pub mod Renamed
-pub mod Used
+pub mod GivenNamesFit
+pub mod GivenNamesKeepBindings
+-- private names
+pub mod NthUnlisted
+pub mod PrivateChains
+-- trees under new names
+pub mod SlotsAreUsed
 pub mod Mangling
+-- rivals, bounds and costs
 pub mod Rivals
 pub mod Bounds
 pub mod Totals
 pub mod Spelled
 pub mod Shortest
-pub mod Characters
-pub mod Identifiers

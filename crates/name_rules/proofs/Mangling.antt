@@ -1,21 +1,39 @@
 -- A tree under its new names is mangled, and as sound as it was.
-use Rattle.std.specs.Prelude.{◌≡◌, ◌⊎◌, ◌≤◌, ◌<◌, ℕ, ◌+◌, Bool, true, false, cond, not, ◌||◌, List, [], ◌∷◌, length, map, filter, get_or, Option, Some, None, is_some}
 use Rattle.std.specs.List.{list_all}
+use Rattle.std.specs.Prelude.{◌≡◌, ◌⊎◌, ◌≤◌, ◌<◌, ℕ, ◌+◌, Bool, true, false, cond, not, ◌||◌, List, [], ◌∷◌, length, map, filter, get_or, Option, Some, None, is_some}
 use Rattle.std.proofs.Common.{refl, sym, ap, ◌∙◌, subst, arith, inl, inr}
 use Rattle.std.proofs.lemmas.Bool.{or_cases, or_left, or_right, and_parts, and_from, both_ways, eqb-true}
 use Rattle.std.proofs.lemmas.List.{length-map}
-use Rattle.name_rules.proofs.Counting.{no_more}
-use Rattle.name_rules.proofs.Fewest.{count-apart, count-length, slotted-groups}
-use Rattle.name_rules.proofs.Given.{Placed, from-append, from-filter, from-map, home_inside, in-map, keeps_apart, kept_name, member_at, members-at, one_of, placed, tells}
-use Rattle.name_rules.proofs.Order.{slots_are_fewest}
-use Rattle.name_rules.proofs.Passing.{among-in}
-use Rattle.name_rules.proofs.PrivateChains.{from-distinct, in-among, private_names_keep_bindings, to-distinct}
-use Rattle.name_rules.proofs.Renamed.{given-by_slot, named-under}
-use Rattle.name_rules.proofs.Runs.{of-each}
-use Rattle.name_rules.proofs.Ranks.{in-count}
-use Rattle.name_rules.proofs.SlotNamed.{from-count, given_name_in, given_names_fit, map-apart}
-use Rattle.name_rules.proofs.Untaken.{free-spelled}
-use Rattle.name_rules.proofs.Used.{slot_found, slot_used}
+use Rattle.list_laws.proofs.AllOf.{AllOf, of_each}
+use Rattle.list_laws.proofs.AnyOf.{all_map}
+use Rattle.list_laws.proofs.Counting.{no_more}
+use Rattle.list_laws.proofs.Members.{In, in_from_Contains, from_append, from_filter, from_map, in_map}
+use Rattle.list_laws.proofs.PairsOf.{different_map, PairsOf}
+use Rattle.list_laws.proofs.Tests.{tested, told}
+use Rattle.tree_nodes.specs.Tree.{Parts, Text}
+use Rattle.tree_places.proofs.Blind.{sites_renamed}
+use Rattle.tree_places.specs.Places.{Place, Site, named_by, names, places, scopes, sites, withs}
+use Rattle.tree_places.specs.Scopes.{Scope, same_scope}
+use Rattle.scope_rules.proofs.BindingsStay.{binding_source, bindings_stay}
+use Rattle.scope_rules.proofs.NoNewFaults.{faults_are_never_new}
+use Rattle.scope_rules.proofs.PlacesRise.{one_of_number}
+use Rattle.scope_rules.proofs.SameNames.{same_name_tells, among_in, from_distinct, in_among, to_distinct}
+use Rattle.scope_rules.specs.Bindings.{binding, bindings, bound, is_node, node, same_name}
+use Rattle.scope_rules.specs.Evals.{is_open}
+use Rattle.scope_rules.specs.Faults.{has_fault, has_undeclared}
+use Rattle.scope_rules.specs.Homes.{declares, home, refers}
+use Rattle.scope_rules.specs.PrivateNames.{declaring_class, distinct, distinct_after, is_among, private_bindings, private_names}
+use Rattle.scope_rules.specs.Renamings.{IsBindingOf, KeepsApart, NoNewFault, all_under, under}
+use Rattle.name_rules.proofs.CountFrom.{count_apart, count_length, from_count}
+use Rattle.name_rules.proofs.FirstUntaken.{free_spelled}
+use Rattle.name_rules.proofs.GivenNamesFit.{given_name_in, given_names_fit}
+use Rattle.name_rules.proofs.GivenNamesKeepBindings.{given_by_slot, named_under}
+use Rattle.name_rules.proofs.GroupsInOrder.{slots_are_fewest}
+use Rattle.name_rules.proofs.PrivateChains.{private_names_keep_bindings}
+use Rattle.name_rules.proofs.Ranks.{in_count}
+use Rattle.name_rules.proofs.SlotNamesKeepApart.{Placed, home_inside, keeps_apart, kept_name, member_at, members_at, placed}
+use Rattle.name_rules.proofs.SlotsAreFewest.{slotted_groups}
+use Rattle.name_rules.proofs.SlotsAreUsed.{slot_found, slot_used}
 use Rattle.name_rules.specs.FreeNames.{is_free, is_spelled, is_taken, is_unchanged}
 use Rattle.name_rules.specs.GivenNames.{count_from, free_names, names_of_slots}
 use Rattle.name_rules.specs.Groups.{Group, Member, greatest_width, group_at, group_led_by, groups, groups_of, leads, members}
@@ -25,58 +43,39 @@ use Rattle.name_rules.specs.MangledLaws.{HasNewNames}
 use Rattle.name_rules.specs.Open.{all_open}
 use Rattle.name_rules.specs.Options.{Options}
 use Rattle.name_rules.specs.PrivateNumbers.{index_of, is_of_open_class, new_private_name, number_in, private_number, with_private}
+use Rattle.name_rules.specs.ShortNames.{short}
 use Rattle.name_rules.specs.SlotNames.{group_in, named_by_slot}
 use Rattle.name_rules.specs.Slots.{Slotted, number_of_slots, slot_of, slots_of}
-use Rattle.tree_nodes.specs.Tree.{Parts, Text}
-use Rattle.tree_places.proofs.Blind.{sites-renamed}
-use Rattle.tree_places.proofs.Runs.{AllOf, PairsOf}
-use Rattle.tree_places.specs.Places.{Place, Site, named_by, names, places, scopes, sites, withs}
-use Rattle.tree_places.specs.Scopes.{Scope, same_scope}
-use Rattle.name_rules.specs.ShortNames.{short}
-use Rattle.scope_rules.specs.Homes.{home}
-use Rattle.scope_rules.proofs.Faultless.{faults_are_never_new}
-use Rattle.scope_rules.proofs.Lists.{In, in_from_Contains, tested, told}
-use Rattle.scope_rules.proofs.Stay.{binding_source, bindings_stay}
-use Rattle.scope_rules.specs.Bindings.{binding, bindings, bound, is_node, node, same_name}
-use Rattle.scope_rules.specs.Evals.{is_open}
-use Rattle.scope_rules.specs.Faults.{has_fault, has_undeclared}
-use Rattle.scope_rules.specs.Homes.{declares, refers}
-use Rattle.scope_rules.specs.PrivateNames.{declaring_class, distinct, distinct_after, is_among, private_bindings, private_names}
-use Rattle.scope_rules.specs.Renamings.{IsBindingOf, KeepsApart, NoNewFault, all_under, under}
 
 -- ---- lists
 
-all-from : (test : Text → Bool) (xs : List Text) → AllOf (λ x. test x ≡ true) xs → list_all test xs ≡ true
-all-from test [] a = refl
-all-from test (x ∷ xs) a = and_from _ _ a.0 (all-from test xs a.1)
+all_from : (test : Text → Bool) (xs : List Text) → AllOf (λ x. test x ≡ true) xs → list_all test xs ≡ true
+all_from test [] a = refl
+all_from test (x ∷ xs) a = and_from _ _ a.0 (all_from test xs a.1)
 
-one-from : (v : Text) (xs : List Text) → AllOf (λ x. x ≡ v) xs → is_one_name xs ≡ true
+one_from : (v : Text) (xs : List Text) → AllOf (λ x. x ≡ v) xs → is_one_name xs ≡ true
 unfolding all_open
-one-from v [] a = refl
-one-from v (x ∷ xs) a = go xs a.1
+one_from v [] a = refl
+one_from v (x ∷ xs) a = go xs a.1
   where
     go : (ys : List Text) → AllOf (λ y. y ≡ v) ys → list_all (same_name x) ys ≡ true
     go [] b = refl
-    go (y ∷ ys) b = and_from _ _ ((tells x y).1 (a.0 ∙ sym b.0)) (go ys b.1)
-
-map-all : {X : Type 0} (f : X → Member) (test : Member → Bool) (xs : List X) → ((x : X) → In x xs → test (f x) ≡ true) → list_all test (map f xs) ≡ true
-map-all f test [] h = refl
-map-all f test (x ∷ xs) h = and_from _ _ (h x (inl refl)) (map-all f test xs (λ y i. h y (inr i)))
+    go (y ∷ ys) b = and_from _ _ ((same_name_tells x y).1 (a.0 ∙ sym b.0)) (go ys b.1)
 
 -- the names under `new` of the places whose member passes
-where-all : (f : Place → Member) (new : Place → Text) (test : Member → Bool) (P : Text → Type 0) (ps : List Place) → ((p : Place) → In p ps → test (f p) ≡ true → P (new p)) → AllOf P (names_where test (map f ps) (map (under new) ps))
+where_all : (f : Place → Member) (new : Place → Text) (test : Member → Bool) (P : Text → Type 0) (ps : List Place) → ((p : Place) → In p ps → test (f p) ≡ true → P (new p)) → AllOf P (names_where test (map f ps) (map (under new) ps))
 unfolding all_open
-where-all f new test P [] h = tt
-where-all f new test P (p ∷ ps) h = go (test (f p)) refl (where-all f new test P ps (λ q i. h q (inr i)))
+where_all f new test P [] h = tt
+where_all f new test P (p ∷ ps) h = go (test (f p)) refl (where_all f new test P ps (λ q i. h q (inr i)))
   where
     go : (b : Bool) → test (f p) ≡ b → AllOf P (names_where test (map f ps) (map (under new) ps)) → AllOf P (cond b (new p ∷ names_where test (map f ps) (map (under new) ps)) (names_where test (map f ps) (map (under new) ps)))
     go true e ih = (h p (inl refl) e, ih)
     go false e ih = ih
 
-where-in : (f : Place → Member) (new : Place → Text) (test : Member → Bool) (ps : List Place) (p : Place) → In p ps → test (f p) ≡ true → In (new p) (names_where test (map f ps) (map (under new) ps))
+where_in : (f : Place → Member) (new : Place → Text) (test : Member → Bool) (ps : List Place) (p : Place) → In p ps → test (f p) ≡ true → In (new p) (names_where test (map f ps) (map (under new) ps))
 unfolding all_open
-where-in f new test [] p i e = absurd i
-where-in f new test (q ∷ qs) p i e = go (test (f q)) refl i (where-in f new test qs p)
+where_in f new test [] p i e = absurd i
+where_in f new test (q ∷ qs) p i e = go (test (f q)) refl i (where_in f new test qs p)
   where
     go : (b : Bool) → test (f q) ≡ b → (q ≡ p) ⊎ In p qs → (In p qs → test (f p) ≡ true → In (new p) (names_where test (map f qs) (map (under new) qs)))
         → In (new p) (cond b (new q ∷ names_where test (map f qs) (map (under new) qs)) (names_where test (map f qs) (map (under new) qs)))
@@ -85,10 +84,10 @@ where-in f new test (q ∷ qs) p i e = go (test (f q)) refl i (where-in f new te
     go false k (inl s) ih = absurd (both_ways _ k (subst (λ (x : Place). test (f x) ≡ true) (sym s) e))
     go false k (inr j) ih = ih j e
 
-where-same : (f : Place → Member) (new : Place → Text) (test : Member → Bool) (ps : List Place) → ((p : Place) → In p ps → test (f p) ≡ true → new p ≡ p.name) → names_where test (map f ps) (map (under new) ps) ≡ names_where test (map f ps) ps
+where_same : (f : Place → Member) (new : Place → Text) (test : Member → Bool) (ps : List Place) → ((p : Place) → In p ps → test (f p) ≡ true → new p ≡ p.name) → names_where test (map f ps) (map (under new) ps) ≡ names_where test (map f ps) ps
 unfolding all_open
-where-same f new test [] h = refl
-where-same f new test (p ∷ ps) h = go (test (f p)) refl (where-same f new test ps (λ q i. h q (inr i)))
+where_same f new test [] h = refl
+where_same f new test (p ∷ ps) h = go (test (f p)) refl (where_same f new test ps (λ q i. h q (inr i)))
   where
     go : (b : Bool) → test (f p) ≡ b → names_where test (map f ps) (map (under new) ps) ≡ names_where test (map f ps) ps
         → cond b (new p ∷ names_where test (map f ps) (map (under new) ps)) (names_where test (map f ps) (map (under new) ps)) ≡ cond b (p.name ∷ names_where test (map f ps) ps) (names_where test (map f ps) ps)
@@ -96,10 +95,10 @@ where-same f new test (p ∷ ps) h = go (test (f p)) refl (where-same f new test
     go false e ih = ih
 
 -- the names of a list once each are all different, and those of the list
-distinct-new : (before xs : List Text) (x : Text) → In x (distinct_after before xs) → is_among before x ≡ false
+distinct_new : (before xs : List Text) (x : Text) → In x (distinct_after before xs) → is_among before x ≡ false
 unfolding all_open
-distinct-new before [] x i = absurd i
-distinct-new before (y ∷ ys) x i = go (is_among before y) refl i (distinct-new before ys x) (distinct-new (y ∷ before) ys x)
+distinct_new before [] x i = absurd i
+distinct_new before (y ∷ ys) x i = go (is_among before y) refl i (distinct_new before ys x) (distinct_new (y ∷ before) ys x)
   where
     second : (a b : Bool) → (a || b) ≡ false → b ≡ false
     second true b h = absurd (both_ways true h refl)
@@ -111,19 +110,19 @@ distinct-new before (y ∷ ys) x i = go (is_among before y) refl i (distinct-new
     go false e (inl s) ih jh = subst (λ (z : Text). is_among before z ≡ false) s e
     go false e (inr j) ih jh = second (same_name x y) (is_among before x) (jh j)
 
-distinct-apart : (before xs : List Text) → PairsOf (λ x y. x ≡ y → ⊥) (distinct_after before xs)
+distinct_names_differ : (before xs : List Text) → PairsOf (λ x y. x ≡ y → ⊥) (distinct_after before xs)
 unfolding all_open
-distinct-apart before [] = tt
-distinct-apart before (y ∷ ys) = go (is_among before y) (distinct-apart before ys) (distinct-apart (y ∷ before) ys)
+distinct_names_differ before [] = tt
+distinct_names_differ before (y ∷ ys) = go (is_among before y) (distinct_names_differ before ys) (distinct_names_differ (y ∷ before) ys)
   where
     other : (zs : List Text) → ((z : Text) → In z zs → is_among (y ∷ before) z ≡ false) → AllOf (λ z. y ≡ z → ⊥) zs
     other [] f = tt
-    other (z ∷ zs) f = ((λ e. both_ways _ (f z (inl refl)) (or_left _ _ ((tells z y).1 (sym e)))), other zs (λ w i. f w (inr i)))
+    other (z ∷ zs) f = ((λ e. both_ways _ (f z (inl refl)) (or_left _ _ ((same_name_tells z y).1 (sym e)))), other zs (λ w i. f w (inr i)))
 
     go : (b : Bool) → PairsOf (λ x z. x ≡ z → ⊥) (distinct_after before ys) → PairsOf (λ x z. x ≡ z → ⊥) (distinct_after (y ∷ before) ys)
         → PairsOf (λ x z. x ≡ z → ⊥) (elim b as (λ c. List Text) [ true ↦ distinct_after before ys | false ↦ y ∷ distinct_after (y ∷ before) ys ])
     go true ih jh = ih
-    go false ih jh = (other (distinct_after (y ∷ before) ys) (distinct-new (y ∷ before) ys), jh)
+    go false ih jh = (other (distinct_after (y ∷ before) ys) (distinct_new (y ∷ before) ys), jh)
 
 -- ---- what has a binding, and what keeps its name, isn't private
 
@@ -156,22 +155,22 @@ open_stays ps x (d ∷ ds) c e f = go (is_among (private_names ps d) x) e (λ k.
     go true q ih = ap (λ b. cond b None (Some (number_in ps ds (index_of x (private_names ps d))))) (subst (λ (n : ℕ). is_open ps n ≡ true) (sym (some q)) f)
     go false q ih = ih q
 
-with-map : (ps : List Place) (f : Place → Text) (qs : List Place) → with_private ps qs (map f qs) ≡ map (λ p. cond p.site.private (new_private_name ps p) (f p)) qs
+with_map : (ps : List Place) (f : Place → Text) (qs : List Place) → with_private ps qs (map f qs) ≡ map (λ p. cond p.site.private (new_private_name ps p) (f p)) qs
 unfolding all_open
-with-map ps f [] = refl
-with-map ps f (q ∷ qs) = ap (λ xs. cond q.site.private (new_private_name ps q) (f q) ∷ xs) (with-map ps f qs)
+with_map ps f [] = refl
+with_map ps f (q ∷ qs) = ap (λ xs. cond q.site.private (new_private_name ps q) (f q) ∷ xs) (with_map ps f qs)
 
 -- a group is led by a member that leads
-pub from-leading : (ss : List Scope) (ms : List Member) (g : Group) → In g (groups ss ms) → (m : Member) × In m ms × (leads m ≡ true) × (group_led_by m ≡ g)
+pub from_leading : (ss : List Scope) (ms : List Member) (g : Group) → In g (groups ss ms) → (m : Member) × In m ms × (leads m ≡ true) × (group_led_by m ≡ g)
 unfolding all_open
-from-leading [] ms g i = absurd i
-from-leading (s ∷ ss) ms g i = go (from-append (map group_led_by (filter (λ m. same_scope (home m.place.site) s) (filter leads ms))) (groups ss ms) g i) (from-leading ss ms g)
+from_leading [] ms g i = absurd i
+from_leading (s ∷ ss) ms g i = go (from_append (map group_led_by (filter (λ m. same_scope (home m.place.site) s) (filter leads ms))) (groups ss ms) g i) (from_leading ss ms g)
   where
     go : In g (map group_led_by (filter (λ m. same_scope (home m.place.site) s) (filter leads ms))) ⊎ In g (groups ss ms) → (In g (groups ss ms) → (m : Member) × In m ms × (leads m ≡ true) × (group_led_by m ≡ g))
         → (m : Member) × In m ms × (leads m ≡ true) × (group_led_by m ≡ g)
     go (inl j) ih =
-        let w : (m : Member) × In m (filter (λ m. same_scope (home m.place.site) s) (filter leads ms)) × (group_led_by m ≡ g) = from-map group_led_by (filter (λ m. same_scope (home m.place.site) s) (filter leads ms)) g j in
-        let f : In w.0 ms × (leads w.0 ≡ true) = from-filter leads ms w.0 (from-filter (λ m. same_scope (home m.place.site) s) (filter leads ms) w.0 w.1).0 in
+        let w : (m : Member) × In m (filter (λ m. same_scope (home m.place.site) s) (filter leads ms)) × (group_led_by m ≡ g) = from_map group_led_by (filter (λ m. same_scope (home m.place.site) s) (filter leads ms)) g j in
+        let f : In w.0 ms × (leads w.0 ≡ true) = from_filter leads ms w.0 (from_filter (λ m. same_scope (home m.place.site) s) (filter leads ms) w.0 w.1).0 in
         (w.0, f.0, f.1, w.2)
     go (inr j) ih = ih j
 
@@ -195,12 +194,12 @@ module _ (o : Options) (t u : Parts) (has : HasNewNames o t u) where
   unfolding new
   new_private p e = ap (λ b. cond b (new_private_name (places t) p) (named_by_slot o t name p)) e
 
-  pub places-new : places u ≡ map (under new) (places t)
+  pub places_new : places u ≡ map (under new) (places t)
   unfolding all_open new
-  places-new =
-      ap (λ ss. named_by ss (names u)) (sites-renamed t u has.renamed)
-      ∙ ap (named_by (sites t)) (has.names ∙ ap (with_private (places t) (places t)) (given-by_slot o t) ∙ with-map (places t) (named_by_slot o t name) (places t))
-      ∙ named-under new (sites t) (names t)
+  places_new =
+      ap (λ ss. named_by ss (names u)) (sites_renamed t u has.renamed)
+      ∙ ap (named_by (sites t)) (has.names ∙ ap (with_private (places t) (places t)) (given_by_slot o t) ∙ with_map (places t) (named_by_slot o t name) (places t))
+      ∙ named_under new (sites t) (names t)
 
   -- ---- bindings
 
@@ -220,8 +219,8 @@ module _ (o : Options) (t u : Parts) (has : HasNewNames o t u) where
       record {
         in_order = k.in_order;
         constant = λ p b i j e.
-            let s : (c : Place) × (node c ≡ node b) × IsBindingOf same_name (places t) c × (c.name ≡ p.name) = binding_source same_name tells (places t) p (in_from_Contains (places t) p i) (node b) e in
-            let q : s.0 ≡ b = one_of t s.0 b (in_from_Contains (places t) s.0 s.2.among) (in_from_Contains (places t) b j) s.1 in
+            let s : (c : Place) × (node c ≡ node b) × IsBindingOf same_name (places t) c × (c.name ≡ p.name) = binding_source same_name same_name_tells (places t) p (in_from_Contains (places t) p i) (node b) e in
+            let q : s.0 ≡ b = one_of_number t s.0 b (in_from_Contains (places t) s.0 s.2.among) (in_from_Contains (places t) b j) s.1 in
             let own : binding same_name (places t) b ≡ Some (node b) = subst (λ (x : Place). binding same_name (places t) x ≡ Some (node x)) q s.2.own in
             new_open p (bound_open p (node b) e) ∙ k.constant p b i j e ∙ sym (new_open b (bound_open b (node b) own));
         no_new_equality = λ b c ib ic live e. k.no_new_equality b c ib ic live (sym (new_open b (declares_open b.site ib.declares)) ∙ e ∙ new_open c (declares_open c.site ic.declares));
@@ -230,11 +229,11 @@ module _ (o : Options) (t u : Parts) (has : HasNewNames o t u) where
 
   bound_same : bindings same_name (places u) ≡ bindings same_name (places t)
   unfolding all_open member_at
-  bound_same = ap (bindings same_name) places-new ∙ bindings_stay same_name same_name tells tells (places t) new keeps
+  bound_same = ap (bindings same_name) places_new ∙ bindings_stay same_name same_name same_name_tells same_name_tells (places t) new keeps
 
   private_same : has_undeclared same_name (places t) ≡ false → private_bindings same_name (places u) ≡ private_bindings same_name (places t)
   unfolding all_open member_at
-  private_same sound = ap (private_bindings same_name) places-new ∙ private_names_keep_bindings t new (λ p i e. new_private p e) sound
+  private_same sound = ap (private_bindings same_name) places_new ∙ private_names_keep_bindings t new (λ p i e. new_private p e) sound
 
   -- ---- names that stay
 
@@ -267,10 +266,10 @@ module _ (o : Options) (t u : Parts) (has : HasNewNames o t u) where
   staying : names_where (stays (places t)) (members o t) (places u) ≡ names_where (stays (places t)) (members o t) (places t)
   unfolding all_open member_at
   staying =
-      ap (names_where (stays (places t)) (members o t)) places-new
-      ∙ ap (λ ms. names_where (stays (places t)) ms (map (under new) (places t))) (members-at o t)
-      ∙ where-same (member_at o t) new (stays (places t)) (places t) (λ p i e. go p i (or_cases _ _ e))
-      ∙ ap (λ ms. names_where (stays (places t)) ms (places t)) (sym (members-at o t))
+      ap (names_where (stays (places t)) (members o t)) places_new
+      ∙ ap (λ ms. names_where (stays (places t)) ms (map (under new) (places t))) (members_at o t)
+      ∙ where_same (member_at o t) new (stays (places t)) (places t) (λ p i e. go p i (or_cases _ _ e))
+      ∙ ap (λ ms. names_where (stays (places t)) ms (places t)) (sym (members_at o t))
     where
       go : (p : Place) → In p (places t) → (is_unchanged (member_at o t p) ≡ true) ⊎ (is_of_open_class (places t) p ≡ true) → new p ≡ p.name
       go p i (inl e) = unchanged_name p i e
@@ -293,26 +292,26 @@ module _ (o : Options) (t u : Parts) (has : HasNewNames o t u) where
   some_of (Some n) h = (n, refl)
 
   -- all places that change, by their new names
-  changed-all : (P : Text → Type 0) → ((p : Place) (g : ℕ) (i : In p (places t)) (e : group_in o t p ≡ Some g) → P (name (slot_name_of p g i e).slotted.slot)) → AllOf P (names_where changes (members o t) (places u))
+  changed_all : (P : Text → Type 0) → ((p : Place) (g : ℕ) (i : In p (places t)) (e : group_in o t p ≡ Some g) → P (name (slot_name_of p g i e).slotted.slot)) → AllOf P (names_where changes (members o t) (places u))
   unfolding all_open member_at
-  changed-all P f = subst (λ (us : List Place). AllOf P (names_where changes (members o t) us)) (sym places-new)
-      (subst (λ (ms : List Member). AllOf P (names_where changes ms (map (under new) (places t)))) (sym (members-at o t))
-      (where-all (member_at o t) new changes P (places t) (λ p i e.
+  changed_all P f = subst (λ (us : List Place). AllOf P (names_where changes (members o t) us)) (sym places_new)
+      (subst (λ (ms : List Member). AllOf P (names_where changes ms (map (under new) (places t)))) (sym (members_at o t))
+      (where_all (member_at o t) new changes P (places t) (λ p i e.
       let g : (n : ℕ) × (group_in o t p ≡ Some n) = some_of (group_in o t p) e in
       subst P (sym (new_open p (grouped_open p g.0 g.1) ∙ (slot_name_of p g.0 i g.1).called)) (f p g.0 i g.1))))
 
   one_name_each : list_all (λ m. is_one_name (names_where (is_with m) (members o t) (places u))) (members o t) ≡ true
   unfolding all_open member_at
-  one_name_each = subst (λ (ms : List Member). list_all (λ m. is_one_name (names_where (is_with m) (members o t) (places u))) ms ≡ true) (sym (members-at o t))
-      (map-all (member_at o t) (λ m. is_one_name (names_where (is_with m) (members o t) (places u))) (places t) (λ p i.
-      ap (λ us. is_one_name (names_where (is_with (member_at o t p)) (members o t) us)) places-new
-      ∙ ap (λ ms. is_one_name (names_where (is_with (member_at o t p)) ms (map (under new) (places t)))) (members-at o t)
+  one_name_each = subst (λ (ms : List Member). list_all (λ m. is_one_name (names_where (is_with m) (members o t) (places u))) ms ≡ true) (sym (members_at o t))
+      (all_map (member_at o t) (λ m. is_one_name (names_where (is_with m) (members o t) (places u))) (places t) (λ p i.
+      ap (λ us. is_one_name (names_where (is_with (member_at o t p)) (members o t) us)) places_new
+      ∙ ap (λ ms. is_one_name (names_where (is_with (member_at o t p)) ms (map (under new) (places t)))) (members_at o t)
       ∙ told (group_in o t p)
-      (λ none. one-from [] (names_where (is_with (member_at o t p)) (map (member_at o t) (places t)) (map (under new) (places t)))
-      (where-all (member_at o t) new (is_with (member_at o t p)) (λ x. x ≡ []) (places t)
+      (λ none. one_from [] (names_where (is_with (member_at o t p)) (map (member_at o t) (places t)) (map (under new) (places t)))
+      (where_all (member_at o t) new (is_with (member_at o t p)) (λ x. x ≡ []) (places t)
       (λ q j e. absurd (both_ways false refl (sym (ap is_some none) ∙ (and_parts _ _ e).0)))))
-      (λ g pg. one-from (name (slot_name_of p g i pg).slotted.slot) (names_where (is_with (member_at o t p)) (map (member_at o t) (places t)) (map (under new) (places t)))
-      (where-all (member_at o t) new (is_with (member_at o t p)) (λ x. x ≡ name (slot_name_of p g i pg).slotted.slot) (places t)
+      (λ g pg. one_from (name (slot_name_of p g i pg).slotted.slot) (names_where (is_with (member_at o t p)) (map (member_at o t) (places t)) (map (under new) (places t)))
+      (where_all (member_at o t) new (is_with (member_at o t p)) (λ x. x ≡ name (slot_name_of p g i pg).slotted.slot) (places t)
       (λ q j e.
       let same : binding same_name (places t) p ≡ binding same_name (places t) q = same_told (binding same_name (places t) p) (binding same_name (places t) q) (and_parts _ _ e).1 in
       let qg : group_in o t q ≡ Some g = ap (group_at (kept_alone o (withs t) (places t) (bound same_name (places t))) (places t) (bound same_name (places t))) (sym same) ∙ pg in
@@ -330,9 +329,9 @@ module _ (o : Options) (t u : Parts) (has : HasNewNames o t u) where
 
   free_each : list_all (is_free o (members o t)) (names_where changes (members o t) (places u)) ≡ true
   unfolding all_open member_at
-  free_each = all-from (is_free o (members o t)) (names_where changes (members o t) (places u)) (changed-all (λ x. is_free o (members o t) x ≡ true) (λ p g i e.
+  free_each = all_from (is_free o (members o t)) (names_where changes (members o t) (places u)) (changed_all (λ x. is_free o (members o t) x ≡ true) (λ p g i e.
       let d : Placed o t name has.rooted (given_names_fit o t) p g = slot_name_of p g i e in
-      and_from _ _ (of-each (λ x. is_spelled x ≡ true) (free_names o (members o t) slotted) (name d.slotted.slot) (free-spelled o (members o t) slotted) (given_name_in o t d.slotted.slot d.below))
+      and_from _ _ (of_each (λ x. is_spelled x ≡ true) (free_names o (members o t) slotted) (name d.slotted.slot) (free_spelled o (members o t) slotted) (given_name_in o t d.slotted.slot d.below))
       (flip (is_taken o (members o t) (name d.slotted.slot)) ((given_names_fit o t).untaken d.slotted.slot d.below))))
     where
       flip : (b : Bool) → b ≡ false → not b ≡ true
@@ -344,37 +343,37 @@ module _ (o : Options) (t u : Parts) (has : HasNewNames o t u) where
   abbrev pub changed : List Text
   changed = names_where changes (members o t) (places u)
 
-  slot-names : List Text
-  slot-names = map name (count_from slotted 0)
+  names_by_slots : List Text
+  names_by_slots = map name (count_from slotted 0)
 
-  names-apart : PairsOf (λ x y. x ≡ y → ⊥) slot-names
-  unfolding slot-names
-  names-apart = map-apart name (count_from slotted 0) (count-apart slotted 0) (λ j k a b e.
-      let p : j < slotted + 0 = from-count slotted 0 j a in
-      let q : k < slotted + 0 = from-count slotted 0 k b in
+  names_apart : PairsOf (λ x y. x ≡ y → ⊥) names_by_slots
+  unfolding names_by_slots
+  names_apart = different_map name (count_from slotted 0) (count_apart slotted 0) (λ j k a b e.
+      let p : j < slotted + 0 = from_count slotted 0 j a in
+      let q : k < slotted + 0 = from_count slotted 0 k b in
       (given_names_fit o t).different j k (omega (arith, p)) (omega (arith, q)) e)
 
-  in-names : (k : ℕ) → k < slotted → In (name k) slot-names
-  unfolding slot-names
-  in-names k h = in-map name (count_from slotted 0) k (subst (λ (m : ℕ). In m (count_from slotted 0)) (let e : k + 0 ≡ k = omega arith in e) (in-count slotted 0 k h))
+  in_names : (k : ℕ) → k < slotted → In (name k) names_by_slots
+  unfolding names_by_slots
+  in_names k h = in_map name (count_from slotted 0) k (subst (λ (m : ℕ). In m (count_from slotted 0)) (let e : k + 0 ≡ k = omega arith in e) (in_count slotted 0 k h))
 
   -- each name of a slot is that of the leader of a group with the slot
   pub used_name : (k : ℕ) → k < slotted → In (name k) changed
   unfolding all_open member_at
   used_name k h =
       let d : (d : Slotted) × In d (slots_of o t) × (d.slot ≡ k) = slot_used o t k h in
-      let g : In d.0.group (groups_of o t) = subst (In d.0.group) (slotted-groups (members o t) [] (groups_of o t)) (in-map (λ (x : Slotted). x.group) (slots_of o t) d.0 d.1) in
-      let m : (m : Member) × In m (members o t) × (leads m ≡ true) × (group_led_by m ≡ d.0.group) = from-leading (scopes t) (members o t) d.0.group g in
-      let p : (p : Place) × In p (places t) × (member_at o t p ≡ m.0) = from-map (member_at o t) (places t) m.0 (subst (In m.0) (members-at o t) m.1) in
+      let g : In d.0.group (groups_of o t) = subst (In d.0.group) (slotted_groups (members o t) [] (groups_of o t)) (in_map (λ (x : Slotted). x.group) (slots_of o t) d.0 d.1) in
+      let m : (m : Member) × In m (members o t) × (leads m ≡ true) × (group_led_by m ≡ d.0.group) = from_leading (scopes t) (members o t) d.0.group g in
+      let p : (p : Place) × In p (places t) × (member_at o t p ≡ m.0) = from_map (member_at o t) (places t) m.0 (subst (In m.0) (members_at o t) m.1) in
       let lead : leads (member_at o t p.0) ≡ true = subst (λ (x : Member). leads x ≡ true) (sym p.2) m.2 in
       let own : group_in o t p.0 ≡ Some (node p.0) = node_told (group_in o t p.0) (node p.0) (and_parts _ _ lead).1 in
       let number : node p.0 ≡ d.0.group.leader = ap (λ (x : Member). node x.place) p.2 ∙ ap (λ (x : Group). x.leader) m.3 in
       let s : Placed o t name has.rooted (given_names_fit o t) p.0 (node p.0) = slot_name_of p.0 (node p.0) p.1 own in
       let slot_k : s.slotted.slot ≡ k = some_one' (sym s.found ∙ ap (λ n. slot_of (slots_of o t) (Some n)) number ∙ slot_found o t d.0 d.1) ∙ d.2 in
       subst (λ (x : Text). In x (names_where changes (members o t) (places u))) (new_open p.0 (grouped_open p.0 (node p.0) own) ∙ s.called ∙ ap name slot_k)
-      (subst (λ (us : List Place). In (new p.0) (names_where changes (members o t) us)) (sym places-new)
-      (subst (λ (ms : List Member). In (new p.0) (names_where changes ms (map (under new) (places t)))) (sym (members-at o t))
-      (where-in (member_at o t) new changes (places t) p.0 p.1 (ap is_some own))))
+      (subst (λ (us : List Place). In (new p.0) (names_where changes (members o t) us)) (sym places_new)
+      (subst (λ (ms : List Member). In (new p.0) (names_where changes ms (map (under new) (places t)))) (sym (members_at o t))
+      (where_in (member_at o t) new changes (places t) p.0 p.1 (ap is_some own))))
     where
       node_told : (x : Option ℕ) (n : ℕ) → is_node x n ≡ true → x ≡ Some n
       node_told None n q = absurd (both_ways false refl q)
@@ -384,17 +383,17 @@ module _ (o : Options) (t u : Parts) (has : HasNewNames o t u) where
       some_one' {m} q = ap (λ x. elim x as (λ y. ℕ) [ None ↦ m | Some y ↦ y ]) q
 
   fewest_names : length (distinct (names_where changes (members o t) (places u))) ≡ greatest_width o t
-  unfolding all_open slot-names
+  unfolding all_open names_by_slots
   fewest_names =
       let xs : List Text = names_where changes (members o t) (places u) in
-      let most : length (distinct xs) ≤ length slot-names = no_more same_name tells (distinct xs) slot-names (distinct-apart [] xs)
-      (λ x i. of-each (λ y. In y slot-names) xs x (changed-all (λ y. In y slot-names) (λ p g j e. in-names (slot_name_of p g j e).slotted.slot (slot_name_of p g j e).below))
-      (among-in xs x (from-distinct [] xs x (in-among (distinct xs) x i)))) in
-      let least : length slot-names ≤ length (distinct xs) = no_more same_name tells slot-names (distinct xs) names-apart
-      (λ x i. let w : (k : ℕ) × In k (count_from slotted 0) × (name k ≡ x) = from-map name (count_from slotted 0) x i in
-      let b : w.0 < slotted + 0 = from-count slotted 0 w.0 w.1 in
-      among-in (distinct xs) x (to-distinct [] xs x (in-among xs x (subst (λ (y : Text). In y xs) w.2 (used_name w.0 (omega (arith, b))))) refl)) in
-      let many : length slot-names ≡ slotted = length-map (count_from slotted 0) name ∙ count-length slotted 0 in
+      let most : length (distinct xs) ≤ length names_by_slots = no_more same_name same_name_tells (distinct xs) names_by_slots (distinct_names_differ [] xs)
+      (λ x i. of_each (λ y. In y names_by_slots) xs x (changed_all (λ y. In y names_by_slots) (λ p g j e. in_names (slot_name_of p g j e).slotted.slot (slot_name_of p g j e).below))
+      (among_in xs x (from_distinct [] xs x (in_among (distinct xs) x i)))) in
+      let least : length names_by_slots ≤ length (distinct xs) = no_more same_name same_name_tells names_by_slots (distinct xs) names_apart
+      (λ x i. let w : (k : ℕ) × In k (count_from slotted 0) × (name k ≡ x) = from_map name (count_from slotted 0) x i in
+      let b : w.0 < slotted + 0 = from_count slotted 0 w.0 w.1 in
+      among_in (distinct xs) x (to_distinct [] xs x (in_among xs x (subst (λ (y : Text). In y xs) w.2 (used_name w.0 (omega (arith, b))))) refl)) in
+      let many : length names_by_slots ≡ slotted = length-map (count_from slotted 0) name ∙ count_length slotted 0 in
       omega (arith, most, least, many, slots_are_fewest o t)
 
   pub is_mangled : has_undeclared same_name (places t) ≡ false → IsMangled t o u
@@ -402,11 +401,11 @@ module _ (o : Options) (t u : Parts) (has : HasNewNames o t u) where
 
   pub is_sound : has_fault same_name (places t) ≡ false → has_fault same_name (places u) ≡ false
   unfolding all_open member_at
-  is_sound sound = tested (has_fault same_name (places u)) (λ e. absurd (both_ways _ sound (never.all (subst (λ (us : List Place). has_fault same_name us ≡ true) places-new e)))) (λ e. e)
+  is_sound sound = tested (has_fault same_name (places u)) (λ e. absurd (both_ways _ sound (never.all (subst (λ (us : List Place). has_fault same_name us ≡ true) places_new e)))) (λ e. e)
     where
       declared : has_undeclared same_name (places t) ≡ false
       declared = tested (has_undeclared same_name (places t)) (λ e. absurd (both_ways _ sound (or_left _ _ (or_right _ _ e)))) (λ e. e)
 
       never : NoNewFault same_name (places t) same_name (all_under new (places t))
-      never = faults_are_never_new same_name same_name tells tells (places t) new keeps (λ p i. home_inside t p (in_from_Contains (places t) p i))
+      never = faults_are_never_new same_name same_name same_name_tells same_name_tells (places t) new keeps (λ p i. home_inside t p (in_from_Contains (places t) p i))
           (private_names_keep_bindings t new (λ p i e. new_private p e) declared)

@@ -1,21 +1,31 @@
 -- No choice of names is shorter than the given names.
-use Rattle.std.specs.Prelude.{◌≡◌, ◌⊎◌, ◌≤◌, ◌<◌, ℕ, zero, suc, ◌+◌, ◌*◌, Bool, true, false, cond, not, ◌&&◌, nat_eq, nat_le, List, [], ◌∷◌, length, map, filter, get_or, sum, Option, Some, None, is_some}
 use Rattle.std.specs.List.{fold}
+use Rattle.std.specs.Prelude.{◌≡◌, ◌⊎◌, ◌≤◌, ◌<◌, ℕ, zero, suc, ◌+◌, ◌*◌, Bool, true, false, cond, not, ◌&&◌, nat_eq, nat_le, List, [], ◌∷◌, length, map, filter, get_or, sum, Option, Some, None, is_some}
 use Rattle.std.proofs.Common.{refl, sym, ap, ◌∙◌, subst, arith, inl, inr}
-use Rattle.std.proofs.lemmas.Bool.{and_parts, both_ways, cases_lt}
+use Rattle.std.proofs.lemmas.Bool.{and_parts, both_ways, cases_lt, not-true}
 use Rattle.std.proofs.lemmas.Bool.Decides.{leb_tells}
 use Rattle.std.proofs.lemmas.List.{length-map}
+use Rattle.std.proofs.lemmas.List.Filters.{length-filter_both}
+use Rattle.list_laws.proofs.AllOf.{AllOf}
+use Rattle.list_laws.proofs.Counting.{no_more}
+use Rattle.list_laws.proofs.Members.{In, contains_from_in, from_filter, from_map, in_filter}
+use Rattle.list_laws.proofs.PairsOf.{PairsOf_filter, different_map, PairsOf}
+use Rattle.tree_nodes.specs.Tree.{Parts, Text}
+use Rattle.tree_places.specs.Places.{Place, places}
+use Rattle.scope_rules.proofs.SameNames.{same_name_tells}
+use Rattle.scope_rules.specs.Bindings.{is_node, same_name}
+use Rattle.scope_rules.specs.Homes.{refers}
+use Rattle.scope_rules.specs.Renamings.{under}
 use Rattle.name_rules.proofs.Bounds.{Numbered_below, found_below}
-use Rattle.name_rules.proofs.Counting.{no_more}
-use Rattle.name_rules.proofs.Fewest.{count-apart, count-length}
-use Rattle.name_rules.proofs.Given.{Placed, from-filter, from-map, in-filter, member_at, members-at, tells}
-use Rattle.name_rules.proofs.Mangling.{grouped_open, new, new_open, places-new, slot_name_of, used_name}
-use Rattle.name_rules.proofs.Numbered.{lengths_never_fall}
-use Rattle.name_rules.proofs.Ranks.{in-count}
-use Rattle.name_rules.proofs.SlotNamed.{count-at, filter-apart, from-count, given_name_in, given_names_fit, heavier-shorter, map-apart}
-use Rattle.name_rules.proofs.Spelled.{spelled-short}
-use Rattle.name_rules.proofs.Totals.{no_dearer, one_more, total, total-same, total_none}
-use Rattle.name_rules.proofs.Untaken.{candidate_one, free-different, free-length}
+use Rattle.name_rules.proofs.CountFrom.{count_apart, count_length, count_at, from_count}
+use Rattle.name_rules.proofs.FirstUntaken.{candidate_one, free_different, free_names_length}
+use Rattle.name_rules.proofs.GivenNamesFit.{given_name_in, given_names_fit, heavier_shorter}
+use Rattle.name_rules.proofs.Mangling.{grouped_open, new, new_open, places_new, slot_name_of, used_name}
+use Rattle.name_rules.proofs.Ranks.{in_count}
+use Rattle.name_rules.proofs.ShortNumbers.{lengths_never_fall}
+use Rattle.name_rules.proofs.SlotNamesKeepApart.{Placed, member_at, members_at}
+use Rattle.name_rules.proofs.Spelled.{spelled_short}
+use Rattle.name_rules.proofs.Totals.{no_dearer, one_more, total, total_same, total_none}
 use Rattle.name_rules.specs.FreeNames.{first_untaken, is_free, is_spelled, is_taken}
 use Rattle.name_rules.specs.GivenNames.{count_from, free_names, names_of_slots}
 use Rattle.name_rules.specs.Groups.{Member, members}
@@ -27,13 +37,6 @@ use Rattle.name_rules.specs.ShortNames.{candidate, short}
 use Rattle.name_rules.specs.Shortest.{IsChoice, NoChoiceIsShorter, changed_names}
 use Rattle.name_rules.specs.SlotNames.{group_in}
 use Rattle.name_rules.specs.Slots.{number_of_slots, slot_of, slots_of, weight}
-use Rattle.tree_nodes.specs.Tree.{Parts, Text}
-use Rattle.tree_places.proofs.Runs.{AllOf, PairsOf}
-use Rattle.tree_places.specs.Places.{Place, places}
-use Rattle.scope_rules.proofs.Lists.{In, contains_from_in}
-use Rattle.scope_rules.specs.Bindings.{is_node, same_name}
-use Rattle.scope_rules.specs.Homes.{refers}
-use Rattle.scope_rules.specs.Renamings.{under}
 
 -- ---- the first candidates that aren't taken: lengths never fall along them, and none that is as good is passed over
 
@@ -82,20 +85,6 @@ module _ (name : ℕ → Text) (one : (m n : ℕ) → name m ≡ name n → m �
 
 -- ---- lists
 
--- those that pass a test, and the others
-partition : {X : Type 0} (p : X → Bool) (xs : List X) → length (filter p xs) + length (filter (λ x. not (p x)) xs) ≡ length xs
-partition p [] = refl
-partition {X} p (x ∷ xs) = go (p x) (partition p xs)
-  where
-    go : (b : Bool) → length (filter p xs) + length (filter (λ y. not (p y)) xs) ≡ length xs
-        → length (cond b (x ∷ filter p xs) (filter p xs)) + length (cond (not b) (x ∷ filter (λ y. not (p y)) xs) (filter (λ y. not (p y)) xs)) ≡ suc (length xs)
-    go true h = omega (arith, h)
-    go false h = omega (arith, h)
-
-not_told : (b : Bool) → not b ≡ true → b ≡ false
-not_told true h = absurd (both_ways false refl h)
-not_told false h = refl
-
 not_from : (b : Bool) → b ≡ false → not b ≡ true
 not_from true h = absurd (both_ways true h refl)
 not_from false h = refl
@@ -140,19 +129,19 @@ chosen_there p q g f (m ∷ ms) (u ∷ us) (w ∷ ws) e = go (p m) (q m) refl re
     go false true h k d ih = absurd (both_ways _ h (f m k))
     go false false h k d ih = ih d
 
-map-map-length : (g : Text → Text) (xs : List Text) → map length (map g xs) ≡ map (λ x. length (g x)) xs
-map-map-length g [] = refl
-map-map-length g (x ∷ xs) = ap (λ ys. length (g x) ∷ ys) (map-map-length g xs)
+map_map_length : (g : Text → Text) (xs : List Text) → map length (map g xs) ≡ map (λ x. length (g x)) xs
+map_map_length g [] = refl
+map_map_length g (x ∷ xs) = ap (λ ys. length (g x) ∷ ys) (map_map_length g xs)
 
-fold-add : (a : ℕ) (xs : List ℕ) → fold ◌+◌ a xs ≡ a + fold ◌+◌ 0 xs
-fold-add a [] = omega arith
-fold-add a (x ∷ xs) =
-    let h : fold ◌+◌ (a + x) xs ≡ (a + x) + fold ◌+◌ 0 xs = fold-add (a + x) xs in
-    let k : fold ◌+◌ (0 + x) xs ≡ (0 + x) + fold ◌+◌ 0 xs = fold-add (0 + x) xs in
+fold_add : (a : ℕ) (xs : List ℕ) → fold ◌+◌ a xs ≡ a + fold ◌+◌ 0 xs
+fold_add a [] = omega arith
+fold_add a (x ∷ xs) =
+    let h : fold ◌+◌ (a + x) xs ≡ (a + x) + fold ◌+◌ 0 xs = fold_add (a + x) xs in
+    let k : fold ◌+◌ (0 + x) xs ≡ (0 + x) + fold ◌+◌ 0 xs = fold_add (0 + x) xs in
     omega (arith, h, k)
 
-sum-cons : (x : ℕ) (xs : List ℕ) → sum (x ∷ xs) ≡ x + sum xs
-sum-cons x xs = let h : fold ◌+◌ (0 + x) xs ≡ (0 + x) + fold ◌+◌ 0 xs = fold-add (0 + x) xs in omega (arith, h)
+sum_cons : (x : ℕ) (xs : List ℕ) → sum (x ∷ xs) ≡ x + sum xs
+sum_cons x xs = let h : fold ◌+◌ (0 + x) xs ≡ (0 + x) + fold ◌+◌ 0 xs = fold_add (0 + x) xs in omega (arith, h)
 
 -- ---- a tree under its new names
 
@@ -170,7 +159,7 @@ module _ (o : Options) (t u : Parts) (has : HasNewNames o t u) where
   heavy k = weight (members o t) (slots_of o t) k
 
   below : (k : ℕ) → In k ks → k < slotted
-  below k i = let h : k < slotted + 0 = from-count slotted 0 k i in omega (arith, h)
+  below k i = let h : k < slotted + 0 = from_count slotted 0 k i in omega (arith, h)
 
   -- references to bindings that aren't kept, and those of slot k
   abbrev refers_changed : Member → Bool
@@ -189,18 +178,18 @@ module _ (o : Options) (t u : Parts) (has : HasNewNames o t u) where
 
     skipped : (p : Place) (ps : List Place) → ((k : ℕ) → refers_to k (member_at o t p) ≡ false) → right (p ∷ ps) ≡ right ps
     unfolding all_open member_at
-    skipped p ps h = total-same (λ k. length (filter (refers_to k) (map (member_at o t) (p ∷ ps))) * count (name k)) (λ k. length (filter (refers_to k) (map (member_at o t) ps)) * count (name k)) ks
+    skipped p ps h = total_same (λ k. length (filter (refers_to k) (map (member_at o t) (p ∷ ps))) * count (name k)) (λ k. length (filter (refers_to k) (map (member_at o t) ps)) * count (name k)) ks
         (λ k i. ap (λ b. length (cond b (member_at o t p ∷ filter (refers_to k) (map (member_at o t) ps)) (filter (refers_to k) (map (member_at o t) ps))) * count (name k)) (h k))
 
     taken_in : (p : Place) (ps : List Place) (k₀ : ℕ) → k₀ < slotted → ((k : ℕ) → refers_to k (member_at o t p) ≡ nat_eq k₀ k) → right (p ∷ ps) ≡ count (name k₀) + right ps
     unfolding all_open member_at
     taken_in p ps k₀ l h =
-        total-same (λ k. length (filter (refers_to k) (map (member_at o t) (p ∷ ps))) * count (name k))
+        total_same (λ k. length (filter (refers_to k) (map (member_at o t) (p ∷ ps))) * count (name k))
         (λ k. cond (nat_eq k₀ k) (suc (length (filter (refers_to k) (map (member_at o t) ps)))) (length (filter (refers_to k) (map (member_at o t) ps))) * count (name k)) ks
         (λ k i. ap (λ n. n * count (name k)) (ap (λ b. length (cond b (member_at o t p ∷ filter (refers_to k) (map (member_at o t) ps)) (filter (refers_to k) (map (member_at o t) ps)))) (h k)
         ∙ either (nat_eq k₀ k) (member_at o t p) (filter (refers_to k) (map (member_at o t) ps))))
-        ∙ one_more k₀ (λ k. length (filter (refers_to k) (map (member_at o t) ps))) (λ k. count (name k)) ks (count-apart slotted 0)
-        (subst (λ (m : ℕ). In m ks) (let e : k₀ + 0 ≡ k₀ = omega arith in e) (in-count slotted 0 k₀ l))
+        ∙ one_more k₀ (λ k. length (filter (refers_to k) (map (member_at o t) ps))) (λ k. count (name k)) ks (count_apart slotted 0)
+        (subst (λ (m : ℕ). In m ks) (let e : k₀ + 0 ≡ k₀ = omega arith in e) (in_count slotted 0 k₀ l))
       where
         either : (b : Bool) (m : Member) (ms : List Member) → length (cond b (m ∷ ms) ms) ≡ cond b (suc (length ms)) (length ms)
         either true m ms = refl
@@ -230,7 +219,7 @@ module _ (o : Options) (t u : Parts) (has : HasNewNames o t u) where
             let called : new o t u has p ≡ name d.slotted.slot = new_open o t u has p (grouped_open o t u has p g (grouped p g e)) ∙ d.called in
             let here : right (p ∷ ps) ≡ count (name d.slotted.slot) + right ps = taken_in p ps d.slotted.slot d.below (λ k. member_group k r ∙ ap (λ y. is_node (slot_of (slots_of o t) y) k) e ∙ ap (λ y. is_node y k) d.found) in
             ap (λ b. sum (map count (cond b (new o t u has p ∷ names_where refers_changed (map (member_at o t) ps) (map (under (new o t u has)) ps)) (names_where refers_changed (map (member_at o t) ps) (map (under (new o t u has)) ps))))) (ap is_some e)
-            ∙ sum-cons (count (new o t u has p)) (map count (names_where refers_changed (map (member_at o t) ps) (map (under (new o t u has)) ps)))
+            ∙ sum_cons (count (new o t u has p)) (map count (names_where refers_changed (map (member_at o t) ps) (map (under (new o t u has)) ps)))
             ∙ ap (λ x. count x + left ps) called ∙ ap (λ n. count (name d.slotted.slot) + n) ih ∙ sym here
 
         go : (r : Bool) → refers p.site ≡ r → left ps ≡ right ps → sum (map count (cond (refers p.site && changes (member_at o t p)) (new o t u has p ∷ names_where refers_changed (map (member_at o t) ps) (map (under (new o t u has)) ps)) (names_where refers_changed (map (member_at o t) ps) (map (under (new o t u has)) ps)))) ≡ right (p ∷ ps)
@@ -242,10 +231,10 @@ module _ (o : Options) (t u : Parts) (has : HasNewNames o t u) where
     in_sum : sum (map count (names_where refers_changed (members o t) (places u))) ≡ total (λ k. heavy k * count (name k)) ks
     unfolding all_open member_at
     in_sum =
-        ap (λ (us : List Place). sum (map count (names_where refers_changed (members o t) us))) (places-new o t u has)
-        ∙ ap (λ (ms : List Member). sum (map count (names_where refers_changed ms (map (under (new o t u has)) (places t))))) (members-at o t)
+        ap (λ (us : List Place). sum (map count (names_where refers_changed (members o t) us))) (places_new o t u has)
+        ∙ ap (λ (ms : List Member). sum (map count (names_where refers_changed ms (map (under (new o t u has)) (places t))))) (members_at o t)
         ∙ regrouped (places t) (λ p i. i)
-        ∙ ap (λ (ms : List Member). total (λ k. length (filter (refers_to k) ms) * count (name k)) ks) (sym (members-at o t))
+        ∙ ap (λ (ms : List Member). total (λ k. length (filter (refers_to k) ms) * count (name k)) ks) (sym (members_at o t))
 
   -- ---- a choice
 
@@ -263,21 +252,21 @@ module _ (o : Options) (t u : Parts) (has : HasNewNames o t u) where
     grows : (m n : ℕ) → m ≤ n → length (candidate o.readable m) ≤ length (candidate o.readable n)
     grows m n h = subst (λ (x : Text). length x ≤ length (candidate o.readable n)) (sym (candidate_short m)) (subst (λ (x : Text). length (short m) ≤ length x) (sym (candidate_short n)) (lengths_never_fall m n h))
 
-    free-rises : PairsOf (λ x y. length x ≤ length y) free
+    free_rises : PairsOf (λ x y. length x ≤ length y) free
     unfolding all_open
-    free-rises = lengths_rise (candidate o.readable) (candidate_one o.readable) grows (is_taken o (members o t)) fuel (number_of_slots (slots_of o t)) 0
+    free_rises = lengths_rise (candidate o.readable) (candidate_one o.readable) grows (is_taken o (members o t)) fuel (number_of_slots (slots_of o t)) 0
 
     -- a free name that is shorter than one of these is one of these
     shorter_free : (x y : Text) → is_free o (members o t) x ≡ true → In y free → length x < length y → In x free
     unfolding all_open
     shorter_free x y f i l =
         let two : (is_spelled x ≡ true) × (not (is_taken o (members o t) x) ≡ true) = and_parts _ _ f in
-        let n : (n : ℕ) × (x ≡ short n) = spelled-short x two.0 in
+        let n : (n : ℕ) × (x ≡ short n) = spelled_short x two.0 in
         let e : x ≡ candidate o.readable n.0 = n.1 ∙ sym (candidate_short n.0) in
         let b : Numbered_below (candidate o.readable) (candidate_one o.readable) (is_taken o (members o t)) y 0 _ = found_below (candidate o.readable) (candidate_one o.readable) (is_taken o (members o t)) fuel (number_of_slots (slots_of o t)) 0 y i in
         subst (λ (z : Text). In z free) (sym e)
         (none_passed_over (candidate o.readable) (candidate_one o.readable) grows (is_taken o (members o t)) n.0 b.number fuel (number_of_slots (slots_of o t)) 0 (from_zero n.0)
-        (before n.0 b.number e b.is (cases_lt n.0 b.number)) (subst (λ (z : Text). is_taken o (members o t) z ≡ false) e (not_told _ two.1)) (subst (λ (z : Text). In z free) b.is i))
+        (before n.0 b.number e b.is (cases_lt n.0 b.number)) (subst (λ (z : Text). is_taken o (members o t) z ≡ false) e (not-true _ two.1)) (subst (λ (z : Text). In z free) b.is i))
       where
         from_zero : (n : ℕ) → 0 ≤ n
         from_zero n = omega arith
@@ -304,14 +293,14 @@ module _ (o : Options) (t u : Parts) (has : HasNewNames o t u) where
         weights = map (weight (members o t) (slots_of o t)) (count_from (number_of_slots (slots_of o t)) 0)
 
         long : length (map (weight (members o t) (slots_of o t)) (count_from (number_of_slots (slots_of o t)) 0)) ≡ slotted
-        long = length-map (count_from slotted 0) (weight (members o t) (slots_of o t)) ∙ count-length slotted 0
+        long = length-map (count_from slotted 0) (weight (members o t) (slots_of o t)) ∙ count_length slotted 0
 
         weighs : (m : ℕ) → m < slotted → get_or (map (weight (members o t) (slots_of o t)) (count_from (number_of_slots (slots_of o t)) 0)) m 0 ≡ heavy m
-        weighs m a = count-at (weight (members o t) (slots_of o t)) slotted 0 m 0 a ∙ ap (weight (members o t) (slots_of o t)) (let e : m + 0 ≡ m = omega arith in e)
+        weighs m a = count_at (weight (members o t) (slots_of o t)) slotted 0 m 0 a ∙ ap (weight (members o t) (slots_of o t)) (let e : m + 0 ≡ m = omega arith in e)
 
         no : heavy k < heavy l → ⊥
         no a =
-            let b : given l ≤ given k = heavier-shorter free (map (weight (members o t) (slots_of o t)) (count_from (number_of_slots (slots_of o t)) 0)) (free-different o (members o t) slotted) (free-length o (members o t) slotted ∙ sym long) free-rises l k
+            let b : given l ≤ given k = heavier_shorter free (map (weight (members o t) (slots_of o t)) (count_from (number_of_slots (slots_of o t)) 0)) (free_different o (members o t) slotted) (free_names_length o (members o t) slotted ∙ sym long) free_rises l k
             (subst (λ (m : ℕ). l < m) (sym long) (below l j)) (subst (λ (m : ℕ). k < m) (sym long) (below k i))
             (subst (λ (m : ℕ). m < get_or (map (weight (members o t) (slots_of o t)) (count_from (number_of_slots (slots_of o t)) 0)) l 0) (sym (weighs k (below k i))) (subst (λ (m : ℕ). heavy k < m) (sym (weighs l (below l j))) a)) in
             over (given k) (given l) h b
@@ -335,21 +324,21 @@ module _ (o : Options) (t u : Parts) (has : HasNewNames o t u) where
     no_fewer_long s l i h =
         counts (length (filter (λ k. is_long s (given k)) ks)) (length (filter (λ x. is_long s (length x)) free)) (length (filter (λ x. not (is_long s (length x))) free)) (length free)
         (length (filter (λ k. is_long s (chosen k)) ks)) (length (filter (λ k. not (is_long s (chosen k))) ks)) (length ks)
-        long_given short_chosen (partition (λ x. is_long s (length x)) free) (partition (λ k. is_long s (chosen k)) ks)
-        (free-length o (members o t) slotted ∙ sym (count-length slotted 0))
+        long_given short_chosen (length-filter_both (λ x. is_long s (length x)) (λ x. not (is_long s (length x))) (λ x. refl) free) (length-filter_both (λ k. is_long s (chosen k)) (λ k. not (is_long s (chosen k))) (λ k. refl) ks)
+        (free_names_length o (members o t) slotted ∙ sym (count_length slotted 0))
       where
         counts : (gl fl fs f cl cs k : ℕ) → gl ≤ fl → cs ≤ fs → fl + fs ≡ f → cl + cs ≡ k → f ≡ k → gl ≤ cl
         counts gl fl fs f cl cs k a b c d e = omega (arith, a, b, c, d, e)
 
         long_given : length (filter (λ k. is_long s (given k)) ks) ≤ length (filter (λ x. is_long s (length x)) free)
         long_given = subst (λ (n : ℕ). n ≤ length (filter (λ x. is_long s (length x)) free)) (length-map (filter (λ k. is_long s (given k)) ks) name)
-            (no_more same_name tells (map name (filter (λ k. is_long s (given k)) ks)) (filter (λ x. is_long s (length x)) free)
-            (map-apart name (filter (λ k. is_long s (given k)) ks) (filter-apart (λ x y. x ≡ y → ⊥) (λ k. is_long s (given k)) ks (count-apart slotted 0))
-            (λ j k a b e. (given_names_fit o t).different j k (below j (from-filter (λ k. is_long s (given k)) ks j a).0) (below k (from-filter (λ k. is_long s (given k)) ks k b).0) e))
+            (no_more same_name same_name_tells (map name (filter (λ k. is_long s (given k)) ks)) (filter (λ x. is_long s (length x)) free)
+            (different_map name (filter (λ k. is_long s (given k)) ks) (PairsOf_filter (λ x y. x ≡ y → ⊥) (λ k. is_long s (given k)) ks (count_apart slotted 0))
+            (λ j k a b e. (given_names_fit o t).different j k (below j (from_filter (λ k. is_long s (given k)) ks j a).0) (below k (from_filter (λ k. is_long s (given k)) ks k b).0) e))
             (λ x a.
-            let w : (k : ℕ) × In k (filter (λ k. is_long s (given k)) ks) × (name k ≡ x) = from-map name (filter (λ k. is_long s (given k)) ks) x a in
-            let f : In w.0 ks × (is_long s (given w.0) ≡ true) = from-filter (λ k. is_long s (given k)) ks w.0 w.1 in
-            subst (λ (y : Text). In y (filter (λ x. is_long s (length x)) free)) w.2 (in-filter (λ x. is_long s (length x)) free (name w.0) (given_name_in o t w.0 (below w.0 f.0)) f.1)))
+            let w : (k : ℕ) × In k (filter (λ k. is_long s (given k)) ks) × (name k ≡ x) = from_map name (filter (λ k. is_long s (given k)) ks) x a in
+            let f : In w.0 ks × (is_long s (given w.0) ≡ true) = from_filter (λ k. is_long s (given k)) ks w.0 w.1 in
+            subst (λ (y : Text). In y (filter (λ x. is_long s (length x)) free)) w.2 (in_filter (λ x. is_long s (length x)) free (name w.0) (given_name_in o t w.0 (below w.0 f.0)) f.1)))
 
         one_choice : (j k : ℕ) → In j ks → In k ks → g (name j) ≡ g (name k) → j ≡ k
         one_choice j k a b e = (given_names_fit o t).different j k (below j a) (below k b)
@@ -367,15 +356,15 @@ module _ (o : Options) (t u : Parts) (has : HasNewNames o t u) where
 
         short_chosen : length (filter (λ k. not (is_long s (chosen k))) ks) ≤ length (filter (λ x. not (is_long s (length x))) free)
         short_chosen = subst (λ (n : ℕ). n ≤ length (filter (λ x. not (is_long s (length x))) free)) (length-map (filter (λ k. not (is_long s (chosen k))) ks) (λ k. g (name k)))
-            (no_more same_name tells (map (λ k. g (name k)) (filter (λ k. not (is_long s (chosen k))) ks)) (filter (λ x. not (is_long s (length x))) free)
-            (map-apart (λ k. g (name k)) (filter (λ k. not (is_long s (chosen k))) ks) (filter-apart (λ x y. x ≡ y → ⊥) (λ k. not (is_long s (chosen k))) ks (count-apart slotted 0))
-            (λ j k a b e. one_choice j k (from-filter (λ k. not (is_long s (chosen k))) ks j a).0 (from-filter (λ k. not (is_long s (chosen k))) ks k b).0 e))
+            (no_more same_name same_name_tells (map (λ k. g (name k)) (filter (λ k. not (is_long s (chosen k))) ks)) (filter (λ x. not (is_long s (length x))) free)
+            (different_map (λ k. g (name k)) (filter (λ k. not (is_long s (chosen k))) ks) (PairsOf_filter (λ x y. x ≡ y → ⊥) (λ k. not (is_long s (chosen k))) ks (count_apart slotted 0))
+            (λ j k a b e. one_choice j k (from_filter (λ k. not (is_long s (chosen k))) ks j a).0 (from_filter (λ k. not (is_long s (chosen k))) ks k b).0 e))
             (λ x a.
-            let w : (k : ℕ) × In k (filter (λ k. not (is_long s (chosen k))) ks) × (g (name k) ≡ x) = from-map (λ k. g (name k)) (filter (λ k. not (is_long s (chosen k))) ks) x a in
-            let f : In w.0 ks × (not (is_long s (chosen w.0)) ≡ true) = from-filter (λ k. not (is_long s (chosen k))) ks w.0 w.1 in
+            let w : (k : ℕ) × In k (filter (λ k. not (is_long s (chosen k))) ks) × (g (name k) ≡ x) = from_map (λ k. g (name k)) (filter (λ k. not (is_long s (chosen k))) ks) x a in
+            let f : In w.0 ks × (not (is_long s (chosen w.0)) ≡ true) = from_filter (λ k. not (is_long s (chosen k))) ks w.0 w.1 in
             subst (λ (y : Text). In y (filter (λ x. not (is_long s (length x))) free)) w.2
-            (in-filter (λ x. not (is_long s (length x))) free (g (name w.0))
-            (shorter_free (g (name w.0)) (name l) (choice.free (name w.0) (contains_from_in (changed_names o t u) (name w.0) (in_use w.0 f.0))) (given_name_in o t l (below l i)) (no_longer w.0 (not_told _ f.1)))
+            (in_filter (λ x. not (is_long s (length x))) free (g (name w.0))
+            (shorter_free (g (name w.0)) (name l) (choice.free (name w.0) (contains_from_in (changed_names o t u) (name w.0) (in_use w.0 f.0))) (given_name_in o t l (below l i)) (no_longer w.0 (not-true _ f.1)))
             f.1)))
 
     shortest : (w : Parts) → changed_names o t w ≡ map g (changed_names o t u) → cost o t u ≤ cost o t w
@@ -383,7 +372,7 @@ module _ (o : Options) (t u : Parts) (has : HasNewNames o t u) where
     shortest w e =
         let a : cost o t u ≡ total (λ k. heavy k * length (name k)) ks = in_sum length in
         let c : names_where refers_changed (members o t) (places w) ≡ map g (names_where refers_changed (members o t) (places u)) = chosen_there changes refers_changed g (λ m h. (and_parts _ _ h).1) (members o t) (places u) (places w) e in
-        let b : cost o t w ≡ total (λ k. heavy k * length (g (name k))) ks = ap (λ xs. sum (map length xs)) c ∙ ap sum (map-map-length g (names_where refers_changed (members o t) (places u))) ∙ in_sum (λ x. length (g x)) in
+        let b : cost o t w ≡ total (λ k. heavy k * length (g (name k))) ks = ap (λ xs. sum (map length xs)) c ∙ ap sum (map_map_length g (names_where refers_changed (members o t) (places u))) ∙ in_sum (λ x. length (g x)) in
         subst (λ (n : ℕ). n ≤ cost o t w) (sym a) (subst (λ (n : ℕ). total (λ k. heavy k * length (name k)) ks ≤ n) (sym b)
         (no_dearer heavy given chosen ks heavier_first no_fewer_long))
 

@@ -1,27 +1,27 @@
 -- Each text of the characters of names is the short name of some number.
-use Rattle.std.specs.Prelude.{◌≡◌, ◌≤◌, ◌<◌, ℕ, zero, suc, ◌+◌, ◌*◌, ◌/◌, ◌%◌, true, nat_eq, [], ◌∷◌, length, get_or, take}
 use Rattle.std.specs.List.{list_all, list_any}
+use Rattle.std.specs.Prelude.{◌≡◌, ◌≤◌, ◌<◌, ℕ, zero, suc, ◌+◌, ◌*◌, ◌/◌, ◌%◌, true, nat_eq, [], ◌∷◌, length, get_or, take}
 use Rattle.std.proofs.Common.{refl, sym, ap, ◌∙◌, arith}
 use Rattle.std.proofs.lemmas.Bool.{and_parts, both_ways, eqb-true}
-use Rattle.name_rules.proofs.Bounds.{found_at}
+use Rattle.list_laws.proofs.AnyOf.{any_some}
+use Rattle.list_laws.proofs.Members.{In, found_at}
+use Rattle.tree_nodes.specs.Tree.{Text}
 use Rattle.name_rules.specs.FreeNames.{is_spelled}
 use Rattle.name_rules.specs.Open.{all_open}
 use Rattle.name_rules.specs.ShortNames.{characters, more_characters, short}
-use Rattle.tree_nodes.specs.Tree.{Text}
-use Rattle.scope_rules.proofs.Lists.{In, any-some}
 
 -- where a listed character stands
 standing : (xs : Text) (c : ℕ) → list_any (nat_eq c) xs ≡ true → (p : ℕ) × (p < length xs) × (get_or xs p 0 ≡ c)
 standing xs c h =
-    let w : (d : ℕ) × In d xs × (nat_eq c d ≡ true) = any-some (nat_eq c) xs h in
+    let w : (d : ℕ) × In d xs × (nat_eq c d ≡ true) = any_some (nat_eq c) xs h in
     let f : (p : ℕ) × (p < length xs) × (get_or xs p 0 ≡ w.0) = found_at xs w.0 0 w.1 in
     (f.0, f.1, f.2 ∙ sym (eqb-true c w.0 w.2))
 
-taken-same : (n : ℕ) (xs : Text) (p : ℕ) → p < length (take n xs) → get_or (take n xs) p 0 ≡ get_or xs p 0
-taken-same zero xs p h = absurd (omega (arith, h))
-taken-same (suc n) [] p h = absurd (omega (arith, h))
-taken-same (suc n) (x ∷ xs) zero h = refl
-taken-same (suc n) (x ∷ xs) (suc p) h = taken-same n xs p (omega (arith, h))
+taken_is_same : (n : ℕ) (xs : Text) (p : ℕ) → p < length (take n xs) → get_or (take n xs) p 0 ≡ get_or xs p 0
+taken_is_same zero xs p h = absurd (omega (arith, h))
+taken_is_same (suc n) [] p h = absurd (omega (arith, h))
+taken_is_same (suc n) (x ∷ xs) zero h = refl
+taken_is_same (suc n) (x ∷ xs) (suc p) h = taken_is_same n xs p (omega (arith, h))
 
 -- the number that is left for these characters
 record Left (cs : Text) : Type 0 where
@@ -52,10 +52,10 @@ left_for (c ∷ cs) h =
         ∙ ap (λ x. x ∷ more_characters fuel l.number) p.2
         ∙ ap (λ xs. c ∷ xs) (l.gives fuel (omega (arith, k)))
 
-pub spelled-short : (x : Text) → is_spelled x ≡ true → (n : ℕ) × (x ≡ short n)
+pub spelled_short : (x : Text) → is_spelled x ≡ true → (n : ℕ) × (x ≡ short n)
 unfolding all_open
-spelled-short [] h = absurd (both_ways _ refl h)
-spelled-short (c ∷ cs) h =
+spelled_short [] h = absurd (both_ways _ refl h)
+spelled_short (c ∷ cs) h =
     let two : (list_any (nat_eq c) (take 54 characters) ≡ true) × (list_all (λ d. list_any (nat_eq d) characters) cs ≡ true) = and_parts _ _ h in
     let l : Left cs = left_for cs two.1 in
     let p : (p : ℕ) × (p < length (take 54 characters)) × (get_or (take 54 characters) p 0 ≡ c) = standing (take 54 characters) c two.0 in
@@ -67,6 +67,6 @@ spelled-short (c ∷ cs) h =
       sym (
           ap (λ m. get_or characters m 0 ∷ more_characters n (n / 54)) r
           ∙ ap (λ m. get_or characters p.0 0 ∷ more_characters n m) q
-          ∙ ap (λ y. y ∷ more_characters n l.number) (sym (taken-same 54 characters p.0 p.1) ∙ p.2)
+          ∙ ap (λ y. y ∷ more_characters n l.number) (sym (taken_is_same 54 characters p.0 p.1) ∙ p.2)
           ∙ ap (λ xs. c ∷ xs) (l.gives n (omega arith))),
     )

@@ -4,16 +4,17 @@ use Rattle.std.proofs.Common.{refl, sym, ap, ◌∙◌, subst, arith, inl, inr, 
 use Rattle.std.proofs.Math.Nat.{suc-mul}
 use Rattle.std.proofs.lemmas.Bool.{cases_lt, eq-eqb, ne_eqb}
 use Rattle.std.proofs.lemmas.Bool.Decides.{leb_tells}
-use Rattle.tree_places.proofs.Runs.{AllOf, PairsOf}
-use Rattle.scope_rules.proofs.Lists.{In}
+use Rattle.list_laws.proofs.AllOf.{AllOf}
+use Rattle.list_laws.proofs.Members.{In}
+use Rattle.list_laws.proofs.PairsOf.{PairsOf}
 
 abbrev pub total : (ℕ → ℕ) → List ℕ → ℕ
 total f [] = 0
 total f (k ∷ ks) = f k + total f ks
 
-pub total-same : (f g : ℕ → ℕ) (ks : List ℕ) → ((k : ℕ) → In k ks → f k ≡ g k) → total f ks ≡ total g ks
-total-same f g [] h = refl
-total-same f g (k ∷ ks) h = let a : f k ≡ g k = h k (inl refl) in let b : total f ks ≡ total g ks = total-same f g ks (λ j i. h j (inr i)) in omega (arith, a, b)
+pub total_same : (f g : ℕ → ℕ) (ks : List ℕ) → ((k : ℕ) → In k ks → f k ≡ g k) → total f ks ≡ total g ks
+total_same f g [] h = refl
+total_same f g (k ∷ ks) h = let a : f k ≡ g k = h k (inl refl) in let b : total f ks ≡ total g ks = total_same f g ks (λ j i. h j (inr i)) in omega (arith, a, b)
 
 total_le : (f g : ℕ → ℕ) (ks : List ℕ) → ((k : ℕ) → In k ks → f k ≤ g k) → total f ks ≤ total g ks
 total_le f g [] h = omega arith
@@ -33,11 +34,11 @@ total_none f (k ∷ ks) = let h : total (λ j. 0 * f j) ks ≡ 0 = total_none f 
 
 -- ---- one more for one item
 
-off : (k₀ : ℕ) (c f : ℕ → ℕ) (ks : List ℕ) → AllOf (λ k. k₀ ≡ k → ⊥) ks → total (λ k. cond (nat_eq k₀ k) (suc (c k)) (c k) * f k) ks ≡ total (λ k. c k * f k) ks
-off k₀ c f [] a = refl
-off k₀ c f (k ∷ ks) a =
+total_without : (k₀ : ℕ) (c f : ℕ → ℕ) (ks : List ℕ) → AllOf (λ k. k₀ ≡ k → ⊥) ks → total (λ k. cond (nat_eq k₀ k) (suc (c k)) (c k) * f k) ks ≡ total (λ k. c k * f k) ks
+total_without k₀ c f [] a = refl
+total_without k₀ c f (k ∷ ks) a =
     let e : cond (nat_eq k₀ k) (suc (c k)) (c k) * f k ≡ c k * f k = ap (λ b. cond b (suc (c k)) (c k) * f k) (ne_eqb k₀ k a.0) in
-    let h : total (λ j. cond (nat_eq k₀ j) (suc (c j)) (c j) * f j) ks ≡ total (λ j. c j * f j) ks = off k₀ c f ks a.1 in
+    let h : total (λ j. cond (nat_eq k₀ j) (suc (c j)) (c j) * f j) ks ≡ total (λ j. c j * f j) ks = total_without k₀ c f ks a.1 in
     omega (arith, e, h)
 
 pub one_more : (k₀ : ℕ) (c f : ℕ → ℕ) (ks : List ℕ) → PairsOf (λ x y. x ≡ y → ⊥) ks → In k₀ ks → total (λ k. cond (nat_eq k₀ k) (suc (c k)) (c k) * f k) ks ≡ f k₀ + total (λ k. c k * f k) ks
@@ -48,7 +49,7 @@ one_more k₀ c f (k ∷ ks) p i = go i (one_more k₀ c f ks p.1)
         → cond (nat_eq k₀ k) (suc (c k)) (c k) * f k + total (λ j. cond (nat_eq k₀ j) (suc (c j)) (c j) * f j) ks ≡ f k₀ + (c k * f k + total (λ j. c j * f j) ks)
     go (inl e) ih =
         let a : cond (nat_eq k₀ k) (suc (c k)) (c k) * f k ≡ c k * f k + f k = ap (λ b. cond b (suc (c k)) (c k) * f k) (eq-eqb k₀ k (sym e)) ∙ suc-mul (c k) (f k) in
-        let h : total (λ j. cond (nat_eq k₀ j) (suc (c j)) (c j) * f j) ks ≡ total (λ j. c j * f j) ks = off k₀ c f ks (subst (λ (x : ℕ). AllOf (λ j. x ≡ j → ⊥) ks) e p.0) in
+        let h : total (λ j. cond (nat_eq k₀ j) (suc (c j)) (c j) * f j) ks ≡ total (λ j. c j * f j) ks = total_without k₀ c f ks (subst (λ (x : ℕ). AllOf (λ j. x ≡ j → ⊥) ks) e p.0) in
         let q : f k ≡ f k₀ = ap f e in
         omega (arith, a, h, q)
     go (inr j) ih =
@@ -67,22 +68,22 @@ one_more k₀ c f (k ∷ ks) p i = go i (one_more k₀ c f ks p.1)
 
 -- ---- thresholds of length
 
-abbrev unit : Bool → ℕ
-unit b = cond b 1 0
+abbrev one_if : Bool → ℕ
+one_if b = cond b 1 0
 
 -- 1 where x is longer than t
 abbrev longer : ℕ → ℕ → ℕ
-longer t x = unit (nat_le (suc t) x)
+longer t x = one_if (nat_le (suc t) x)
 
 longer_is : (t x : ℕ) → ((t < x) × (longer t x ≡ 1)) ⊎ ((x ≤ t) × (longer t x ≡ 0))
-longer_is t x = elim (leb_tells (suc t) x) [ inl e ↦ inl (omega (arith, e.1), ap unit e.0) | inr e ↦ inr (omega (arith, e.1), ap unit e.0) ]
+longer_is t x = elim (leb_tells (suc t) x) [ inl e ↦ inl (omega (arith, e.1), ap one_if e.0) | inr e ↦ inr (omega (arith, e.1), ap one_if e.0) ]
 
 -- how many are longer
-counted : (t : ℕ) (x : ℕ → ℕ) (ks : List ℕ) → total (λ k. longer t (x k)) ks ≡ length (filter (λ k. nat_le (suc t) (x k)) ks)
-counted t x [] = refl
-counted t x (k ∷ ks) = go (nat_le (suc t) (x k)) (counted t x ks)
+longer_counted : (t : ℕ) (x : ℕ → ℕ) (ks : List ℕ) → total (λ k. longer t (x k)) ks ≡ length (filter (λ k. nat_le (suc t) (x k)) ks)
+longer_counted t x [] = refl
+longer_counted t x (k ∷ ks) = go (nat_le (suc t) (x k)) (longer_counted t x ks)
   where
-    go : (b : Bool) → total (λ j. longer t (x j)) ks ≡ length (filter (λ j. nat_le (suc t) (x j)) ks) → unit b + total (λ j. longer t (x j)) ks ≡ length (cond b (k ∷ filter (λ j. nat_le (suc t) (x j)) ks) (filter (λ j. nat_le (suc t) (x j)) ks))
+    go : (b : Bool) → total (λ j. longer t (x j)) ks ≡ length (filter (λ j. nat_le (suc t) (x j)) ks) → one_if b + total (λ j. longer t (x j)) ks ≡ length (cond b (k ∷ filter (λ j. nat_le (suc t) (x j)) ks) (filter (λ j. nat_le (suc t) (x j)) ks))
     go true h = omega (arith, h)
     go false h = omega (arith, h)
 
@@ -91,9 +92,9 @@ module _ (w u g : ℕ → ℕ) where
   Greatest t ks = ((k : ℕ) → In k ks → u k ≤ t) ⊎ ((l : ℕ) × In l ks × (t < u l) × ((k : ℕ) → In k ks → t < u k → w k ≤ w l))
 
   -- the greatest weight of an item that is longer than t, if there is one
-  greatest : (t : ℕ) (ks : List ℕ) → Greatest t ks
-  greatest t [] = inl (λ k i. absurd i)
-  greatest t (x ∷ xs) = go (cases_lt t (u x)) (greatest t xs)
+  heaviest_longer : (t : ℕ) (ks : List ℕ) → Greatest t ks
+  heaviest_longer t [] = inl (λ k i. absurd i)
+  heaviest_longer t (x ∷ xs) = go (cases_lt t (u x)) (heaviest_longer t xs)
     where
       longer_one : t < u x → Greatest t xs → Greatest t (x ∷ xs)
       longer_one long (inl all) = inr (x, inl refl, long, λ k i l. at k i l)
@@ -131,16 +132,16 @@ module _ (w u g : ℕ → ℕ) where
       go (inl long) m = longer_one long m
       go (inr short) m = shorter_one short m
 
-  split : (x : ℕ → ℕ) (t : ℕ) (ks : List ℕ) → total (λ k. w k * min (x k) (suc t)) ks ≡ total (λ k. w k * min (x k) t) ks + total (λ k. w k * longer t (x k)) ks
-  split x t [] = refl
-  split x t (k ∷ ks) =
+  capped_split : (x : ℕ → ℕ) (t : ℕ) (ks : List ℕ) → total (λ k. w k * min (x k) (suc t)) ks ≡ total (λ k. w k * min (x k) t) ks + total (λ k. w k * longer t (x k)) ks
+  capped_split x t [] = refl
+  capped_split x t (k ∷ ks) =
       let e : min (x k) (suc t) ≡ min (x k) t + longer t (x k) = elim (longer_is t (x k)) [ inl a ↦ omega (arith, a.0, a.1) | inr a ↦ omega (arith, a.0, a.1) ] in
       let d : w k * min (x k) (suc t) ≡ w k * min (x k) t + w k * longer t (x k) = ap (λ z. w k * z) e ∙ mul-add (w k) (min (x k) t) (longer t (x k)) in
-      let h : total (λ j. w j * min (x j) (suc t)) ks ≡ total (λ j. w j * min (x j) t) ks + total (λ j. w j * longer t (x j)) ks = split x t ks in
+      let h : total (λ j. w j * min (x j) (suc t)) ks ≡ total (λ j. w j * min (x j) t) ks + total (λ j. w j * longer t (x j)) ks = capped_split x t ks in
       omega (arith, h, d)
 
-  whole : (x : ℕ → ℕ) (m : ℕ) (ks : List ℕ) → ((k : ℕ) → In k ks → x k ≤ m) → total (λ k. w k * min (x k) m) ks ≡ total (λ k. w k * x k) ks
-  whole x m ks h = total-same (λ k. w k * min (x k) m) (λ k. w k * x k) ks (λ k i. ap (λ z. w k * z) (let a : x k ≤ m = h k i in let e : min (x k) m ≡ x k = omega (arith, a) in e))
+  capped_whole : (x : ℕ → ℕ) (m : ℕ) (ks : List ℕ) → ((k : ℕ) → In k ks → x k ≤ m) → total (λ k. w k * min (x k) m) ks ≡ total (λ k. w k * x k) ks
+  capped_whole x m ks h = total_same (λ k. w k * min (x k) m) (λ k. w k * x k) ks (λ k i. ap (λ z. w k * z) (let a : x k ≤ m = h k i in let e : min (x k) m ≡ x k = omega (arith, a) in e))
 
   module _ (ks : List ℕ)
       (by_weight : (k l : ℕ) → In k ks → In l ks → u k < u l → w l ≤ w k)
@@ -158,14 +159,14 @@ module _ (w u g : ℕ → ℕ) where
           ]
         ]
 
-    fewer : (t l : ℕ) → In l ks → t < u l → total (λ k. longer t (u k)) ks ≤ total (λ k. longer t (g k)) ks
-    fewer t l i h = let a : total (λ k. longer t (u k)) ks ≡ length (filter (λ k. nat_le (suc t) (u k)) ks) = counted t u ks in
-        let b : total (λ k. longer t (g k)) ks ≡ length (filter (λ k. nat_le (suc t) (g k)) ks) = counted t g ks in
+    fewer_are_longer : (t l : ℕ) → In l ks → t < u l → total (λ k. longer t (u k)) ks ≤ total (λ k. longer t (g k)) ks
+    fewer_are_longer t l i h = let a : total (λ k. longer t (u k)) ks ≡ length (filter (λ k. nat_le (suc t) (u k)) ks) = longer_counted t u ks in
+        let b : total (λ k. longer t (g k)) ks ≡ length (filter (λ k. nat_le (suc t) (g k)) ks) = longer_counted t g ks in
         let c : length (filter (λ k. nat_le (suc t) (u k)) ks) ≤ length (filter (λ k. nat_le (suc t) (g k)) ks) = no_shorter t l i h in
         omega (arith, a, b, c)
 
     one_length : (t : ℕ) → total (λ k. w k * longer t (u k)) ks ≤ total (λ k. w k * longer t (g k)) ks
-    one_length t = go (greatest t ks)
+    one_length t = go (heaviest_longer t ks)
       where
         go : Greatest t ks → total (λ k. w k * longer t (u k)) ks ≤ total (λ k. w k * longer t (g k)) ks
         go (inl all) = total_le (λ k. w k * longer t (u k)) (λ k. w k * longer t (g k)) ks (λ k i. elim (longer_is t (u k)) [ inl a ↦ let h : u k ≤ t = all k i in let l : t < u k = a.0 in let no : ⊥ = omega (arith, l, h) in absurd no | inr a ↦ rw a.1 (omega arith) ])
@@ -176,7 +177,7 @@ module _ (w u g : ℕ → ℕ) where
             let b : total (λ k. w k * longer t (g k) + w m.0 * longer t (u k)) ks ≡ total (λ k. w k * longer t (g k)) ks + total (λ k. w m.0 * longer t (u k)) ks = total_add (λ k. w k * longer t (g k)) (λ k. w m.0 * longer t (u k)) ks in
             let c : total (λ k. w m.0 * longer t (g k)) ks ≡ w m.0 * total (λ k. longer t (g k)) ks = total_mul (w m.0) (λ k. longer t (g k)) ks in
             let d : total (λ k. w m.0 * longer t (u k)) ks ≡ w m.0 * total (λ k. longer t (u k)) ks = total_mul (w m.0) (λ k. longer t (u k)) ks in
-            let f : w m.0 * total (λ k. longer t (u k)) ks ≤ w m.0 * total (λ k. longer t (g k)) ks = mul-le-mul_left (w m.0) (fewer t m.0 m.1 m.2) in
+            let f : w m.0 * total (λ k. longer t (u k)) ks ≤ w m.0 * total (λ k. longer t (g k)) ks = mul-le-mul_left (w m.0) (fewer_are_longer t m.0 m.1 m.2) in
             omega (arith, p, a, b, c, d, f)
 
     -- lengths count only up to t
@@ -185,15 +186,15 @@ module _ (w u g : ℕ → ℕ) where
     capped (suc t) =
         let a : total (λ k. w k * min (u k) t) ks ≤ total (λ k. w k * min (g k) t) ks = capped t in
         let b : total (λ k. w k * longer t (u k)) ks ≤ total (λ k. w k * longer t (g k)) ks = one_length t in
-        let c : total (λ k. w k * min (u k) (suc t)) ks ≡ total (λ k. w k * min (u k) t) ks + total (λ k. w k * longer t (u k)) ks = split u t ks in
-        let d : total (λ k. w k * min (g k) (suc t)) ks ≡ total (λ k. w k * min (g k) t) ks + total (λ k. w k * longer t (g k)) ks = split g t ks in
+        let c : total (λ k. w k * min (u k) (suc t)) ks ≡ total (λ k. w k * min (u k) t) ks + total (λ k. w k * longer t (u k)) ks = capped_split u t ks in
+        let d : total (λ k. w k * min (g k) (suc t)) ks ≡ total (λ k. w k * min (g k) t) ks + total (λ k. w k * longer t (g k)) ks = capped_split g t ks in
         omega (arith, a, b, c, d)
 
     cheapest : (m : ℕ) → ((k : ℕ) → In k ks → u k ≤ m) → ((k : ℕ) → In k ks → g k ≤ m) → total (λ k. w k * u k) ks ≤ total (λ k. w k * g k) ks
     cheapest m hu hg =
         let a : total (λ k. w k * min (u k) m) ks ≤ total (λ k. w k * min (g k) m) ks = capped m in
-        let b : total (λ k. w k * min (u k) m) ks ≡ total (λ k. w k * u k) ks = whole u m ks hu in
-        let c : total (λ k. w k * min (g k) m) ks ≡ total (λ k. w k * g k) ks = whole g m ks hg in
+        let b : total (λ k. w k * min (u k) m) ks ≡ total (λ k. w k * u k) ks = capped_whole u m ks hu in
+        let c : total (λ k. w k * min (g k) m) ks ≡ total (λ k. w k * g k) ks = capped_whole g m ks hg in
         omega (arith, a, b, c)
 
     -- all lengths are at most their sum

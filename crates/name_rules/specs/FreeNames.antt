@@ -1,4 +1,4 @@
--- Which names may be given (own; ECMA-262, Keywords and Reserved Words).
+-- Which names may be given (ECMA-262, Keywords and Reserved Words).
 use Rattle.std.specs.Prelude.{ℕ, zero, suc, Bool, true, false, not, ◌&&◌, ◌||◌, nat_eq, List, [], ◌∷◌, take, is_some}
 use Rattle.std.specs.List.{list_all, list_any}
 use Rattle.name_rules.specs.Groups.{Member}

@@ -1,4 +1,4 @@
--- The names that are given (own, after oxc_mangler).
+-- The names that are given (after oxc_mangler).
 use Rattle.std.specs.Prelude.{ℕ, zero, suc, ◌+◌, Bool, ◌&&◌, ◌||◌, nat_eq, nat_lt, List, [], ◌∷◌, map, length, Some, None, get_or, filter}
 use Rattle.name_rules.specs.FreeNames.{first_untaken, is_taken}
 use Rattle.name_rules.specs.Groups.{Member, members}

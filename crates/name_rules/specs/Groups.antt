@@ -1,4 +1,4 @@
--- Which bindings share a name by force, where a name is in use, and how many are at once (own).
+-- Which bindings share a name by force, where a name is in use, and how many are at once.
 use Rattle.std.specs.Prelude.{ℕ, max, Bool, ◌&&◌, ◌||◌, nat_eq, List, [], ◌∷◌, map, length, Option, Some, None, filter, find, if◌then◌else◌}
 use Rattle.std.specs.List.{list_any, flat_map}
 use Rattle.name_rules.specs.Kept.{is_kept, kept_alone}

@@ -1,4 +1,4 @@
--- Which bindings keep their names, whatever else is renamed (own).
+-- Which bindings keep their names, whatever else is renamed.
 use Rattle.std.specs.Prelude.{ℕ, Bool, true, false, not, ◌&&◌, ◌||◌, nat_eq, List, [], ◌∷◌, map, Option, Some, None, codes, filter, find}
 use Rattle.std.specs.List.{list_any}
 use Rattle.name_rules.specs.Options.{Options}

@@ -1,4 +1,4 @@
--- What a mangled tree is, its rivals, and what a tree's names cost (own).
+-- What a mangled tree is, its rivals, and what a tree's names cost.
 use Rattle.std.specs.Prelude.{◌≡◌, ℕ, Bool, true, false, not, ◌&&◌, ◌||◌, nat_eq, List, [], ◌∷◌, map, length, Option, Some, is_some, is_none, sum, IsTrue, IsFalse, if◌then◌else◌}
 use Rattle.std.specs.List.{list_all}
 use Rattle.name_rules.specs.FreeNames.{is_free, is_unchanged}

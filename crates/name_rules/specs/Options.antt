@@ -1,4 +1,4 @@
--- What a mangling is asked to do (own, after the options of oxc_mangler).
+-- What a mangling is asked to do (after the options of oxc_mangler).
 use Rattle.std.specs.Prelude.{Bool, true, not, nat_eq, List, Option, Some, None}
 use Rattle.tree_nodes.specs.Tree.{Parts, Text, child, part, word_of}
 

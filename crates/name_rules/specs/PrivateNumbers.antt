@@ -1,4 +1,4 @@
--- The new names of private members (own, after oxc_mangler; that the names of open classes stay, and that others avoid them, is our own).
+-- The new names of private members (after oxc_mangler; that the names of open classes stay, and that others avoid them, is our own).
 use Rattle.std.specs.Prelude.{ℕ, zero, suc, ◌+◌, Bool, false, not, List, [], ◌∷◌, map, length, Option, Some, None, filter, sum, if◌then◌else◌}
 use Rattle.std.specs.List.{flat_map}
 use Rattle.name_rules.specs.GivenNames.{given_names}

@@ -1,5 +1,5 @@
--- The order in which names are taken (own, after oxc_mangler's base54).
-use Rattle.std.specs.Prelude.{ℕ, zero, suc, ◌+◌, ◌/◌, ◌%◌, Bool, true, false, nat_lt, [], ◌∷◌, codes, get_or, if◌then◌else◌}
+-- The order in which names are taken, that of oxc_mangler's base54.
+use Rattle.std.specs.Prelude.{ℕ, zero, suc, ◌+◌, ◌/◌, ◌%◌, Bool, true, false, nat_lt, [], ◌∷◌, ◌++◌, codes, get_or, if◌then◌else◌}
 use Rattle.tree_nodes.specs.Tree.{Text}
 
 -- the 64 characters of names; a name begins with one of the first 54
@@ -23,7 +23,7 @@ digits_onto (suc fuel) n after = elim (nat_lt n 10) [ true ↦ (48 + n) ∷ afte
 
 -- `slot_` and n
 unfoldable pub readable_name : ℕ → Text
-readable_name n = 115 ∷ 108 ∷ 111 ∷ 116 ∷ 95 ∷ digits_onto (suc n) n []
+readable_name n = codes "slot_" ++ digits_onto (suc n) n []
 
 -- the n-th candidate
 unfoldable pub candidate : (readable : Bool) → ℕ → Text

@@ -1,4 +1,4 @@
--- Slots: groups that are never live in one scope may share one (own, after oxc_mangler).
+-- Slots: groups that are never live in one scope may share one (after oxc_mangler).
 use Rattle.std.specs.Prelude.{ℕ, zero, suc, ◌&&◌, nat_eq, List, [], ◌∷◌, ◌++◌, map, length, Option, Some, None, filter, find, if◌then◌else◌}
 use Rattle.std.specs.List.{list_any}
 use Rattle.name_rules.specs.Groups.{Group, Member, greatest, groups_of, is_live, members}

@@ -1,4 +1,5 @@
-//! The laws on slots. The functions here do nothing: each has a law as its contract.
+//! The laws on names: of groups and slots, short names, given names, private names and mangled trees. The
+//! functions here do nothing: each has a law as its contract.
 
 ghost use Rattle.name_rules.specs.MangledLaws.{NewNamesAreSound, NewNamesMangle};
 ghost use Rattle.name_rules.specs.NameCharacters.{ShortNamesAreIdentifiers};

@@ -1,21 +1,23 @@
 -- Lists of names, each once, and where a name stands in them.
-use Rattle.std.specs.Prelude.{◌≡◌, ◌≤◌, ℕ, suc, ◌+◌, Bool, true, false, cond, ◌||◌, List, [], ◌∷◌, ◌++◌, length, filter, Some, None, is_some, bytes_eq, if◌then◌else◌}
 use Rattle.std.specs.List.{position_from}
+use Rattle.std.specs.Prelude.{◌≡◌, ◌≤◌, ℕ, suc, ◌+◌, Bool, true, false, cond, ◌||◌, List, [], ◌∷◌, ◌++◌, length, filter, Some, None, is_some, bytes_eq, if◌then◌else◌}
 use Rattle.std.proofs.Common.{refl, sym, ap, ◌∙◌, arith}
 use Rattle.std.proofs.lemmas.Bool.{or_parts, both_ways}
+use Rattle.list_laws.proofs.AllOf.{AllOf}
+use Rattle.list_laws.proofs.PairsOf.{PairsOf, PairsOf_filter}
+use Rattle.tree_nodes.specs.Tree.{Text}
+use Rattle.scope_rules.proofs.SameNames.{distinct_after_most}
+use Rattle.scope_rules.specs.Bindings.{or_else}
+use Rattle.scope_rules.specs.PrivateNames.{distinct, distinct_after, is_among}
 use Rattle.one_scope.proofs.Texts.{same_is, same_sym}
 use Rattle.one_scope.specs.Flat.{flat_slot}
 use Rattle.one_scope.specs.Open.{all_open}
-use Rattle.tree_nodes.specs.Tree.{Text}
-use Rattle.tree_places.proofs.Runs.{AllOf, PairsOf}
-use Rattle.scope_rules.specs.Bindings.{or_else}
-use Rattle.scope_rules.specs.PrivateNames.{distinct, distinct_after, is_among}
 
 -- ---- which names are among them
 
 -- equal names pass the same tests
-alike : (test : Text → Bool) (x y : Text) → bytes_eq x y ≡ true → test x ≡ test y
-alike test x y e = ap test (same_is x y e)
+passes_alike : (test : Text → Bool) (x y : Text) → bytes_eq x y ≡ true → test x ≡ test y
+passes_alike test x y e = ap test (same_is x y e)
 
 pub among_filter : (test : Text → Bool) (xs : List Text) (x : Text) → test x ≡ true → is_among (filter test xs) x ≡ is_among xs x
 unfolding all_open
@@ -24,7 +26,7 @@ among_filter test (y ∷ ys) x t = go (test y) (bytes_eq x y) refl refl (among_f
   where
     go : (b s : Bool) → test y ≡ b → bytes_eq x y ≡ s → is_among (filter test ys) x ≡ is_among ys x → is_among (cond b (y ∷ filter test ys) (filter test ys)) x ≡ (bytes_eq x y || is_among ys x)
     go true s p q ih = ap (λ b. bytes_eq x y || b) ih
-    go false true p q ih = absurd (both_ways _ p (sym (alike test x y q) ∙ t))
+    go false true p q ih = absurd (both_ways _ p (sym (passes_alike test x y q) ∙ t))
     go false false p q ih = rw q ih
 
 among_after : (before xs : List Text) (x : Text) → is_among before x ≡ false → is_among (distinct_after before xs) x ≡ is_among xs x
@@ -34,7 +36,7 @@ among_after before (y ∷ ys) x n = go (is_among before y) (bytes_eq x y) refl r
   where
     go : (b s : Bool) → is_among before y ≡ b → bytes_eq x y ≡ s → is_among (distinct_after before ys) x ≡ is_among ys x → ((bytes_eq x y || is_among before x) ≡ false → is_among (distinct_after (y ∷ before) ys) x ≡ is_among ys x)
         → is_among (elim b as (λ c. List Text) [ true ↦ distinct_after before ys | false ↦ y ∷ distinct_after (y ∷ before) ys ]) x ≡ (bytes_eq x y || is_among ys x)
-    go true true p q ih jh = absurd (both_ways _ n (alike (is_among before) x y q ∙ p))
+    go true true p q ih jh = absurd (both_ways _ n (passes_alike (is_among before) x y q ∙ p))
     go true false p q ih jh = rw q ih
     go false true p q ih jh = rw q refl
     go false false p q ih jh = rw q (jh (rw q n))
@@ -44,10 +46,6 @@ unfolding all_open
 among_distinct xs x = among_after [] xs x refl
 
 -- ---- one name more
-
-nothing_or : (b : Bool) → (b || false) ≡ b
-nothing_or true = refl
-nothing_or false = refl
 
 or_over : (a b c : Bool) → ((a || b) || c) ≡ (b || (a || c))
 or_over true true c = refl
@@ -68,7 +66,7 @@ distinct_after_more before (y ∷ ys) x = go (is_among before y) (bytes_eq x y) 
         → distinct_after (y ∷ before) (ys ++ x ∷ []) ≡ distinct_after (y ∷ before) ys ++ (if (bytes_eq x y || is_among before x) || is_among ys x then [] else x ∷ [])
         → elim b as (λ c. List Text) [ true ↦ distinct_after before (ys ++ x ∷ []) | false ↦ y ∷ distinct_after (y ∷ before) (ys ++ x ∷ []) ]
         ≡ elim b as (λ c. List Text) [ true ↦ distinct_after before ys | false ↦ y ∷ distinct_after (y ∷ before) ys ] ++ (if is_among before x || (bytes_eq x y || is_among ys x) then [] else x ∷ [])
-    go true true p q ih jh = let i : is_among before x ≡ true = alike (is_among before) x y q ∙ p in ih ∙ ap (λ (b : Bool). distinct_after before ys ++ (if b then [] else x ∷ [])) (rw i refl)
+    go true true p q ih jh = let i : is_among before x ≡ true = passes_alike (is_among before) x y q ∙ p in ih ∙ ap (λ (b : Bool). distinct_after before ys ++ (if b then [] else x ∷ [])) (rw i refl)
     go true false p q ih jh = rw q ih
     go false s p q ih jh = ap (λ zs. y ∷ zs) (jh ∙ ap (λ (b : Bool). distinct_after (y ∷ before) ys ++ (if b then [] else x ∷ [])) (or_over (bytes_eq x y) (is_among before x) (is_among ys x)))
 
@@ -144,46 +142,12 @@ after_apart before (y ∷ ys) = go (is_among before y) (after_apart before ys) (
     go true ih jh a = ih
     go false ih jh a = (a, jh)
 
-all_filter : {X : Type 0} (P : X → Type 0) (test : X → Bool) (xs : List X) → AllOf P xs → AllOf P (filter test xs)
-all_filter P test [] h = tt
-all_filter {X} P test (x ∷ xs) h = go (test x) h.0 (all_filter P test xs h.1)
-  where
-    go : (b : Bool) → P x → AllOf P (filter test xs) → AllOf P (cond b (x ∷ filter test xs) (filter test xs))
-    go true p ih = (p, ih)
-    go false p ih = ih
-
-pairs_filter : {X : Type 0} (R : X → X → Type 0) (test : X → Bool) (xs : List X) → PairsOf R xs → PairsOf R (filter test xs)
-pairs_filter R test [] h = tt
-pairs_filter {X} R test (x ∷ xs) h = go (test x) (all_filter (R x) test xs h.0) (pairs_filter R test xs h.1)
-  where
-    go : (b : Bool) → AllOf (R x) (filter test xs) → PairsOf R (filter test xs) → PairsOf R (cond b (x ∷ filter test xs) (filter test xs))
-    go true a ih = (a, ih)
-    go false a ih = ih
-
 pub distinct_apart : (test : Text → Bool) (xs : List Text) → AllApart (filter test (distinct xs))
 unfolding all_open
-distinct_apart test xs = pairs_filter (λ x y. bytes_eq x y ≡ false) test (distinct xs) (after_apart [] xs)
+distinct_apart test xs = PairsOf_filter (λ x y. bytes_eq x y ≡ false) test (distinct xs) (after_apart [] xs)
 
 -- ---- they are no more than the names
 
-pub filter_less : {X : Type 0} (test : X → Bool) (xs : List X) → length (filter test xs) ≤ length xs
-filter_less test [] = omega arith
-filter_less {X} test (x ∷ xs) = go (test x) (filter_less test xs)
-  where
-    go : (b : Bool) → length (filter test xs) ≤ length xs → length (cond b (x ∷ filter test xs) (filter test xs)) ≤ suc (length xs)
-    go true ih = omega (arith, ih)
-    go false ih = omega (arith, ih)
-
-after_less : (before xs : List Text) → length (distinct_after before xs) ≤ length xs
-unfolding all_open
-after_less before [] = omega arith
-after_less before (y ∷ ys) = go (is_among before y) (after_less before ys) (after_less (y ∷ before) ys)
-  where
-    go : (b : Bool) → length (distinct_after before ys) ≤ length ys → length (distinct_after (y ∷ before) ys) ≤ length ys
-        → length (elim b as (λ c. List Text) [ true ↦ distinct_after before ys | false ↦ y ∷ distinct_after (y ∷ before) ys ]) ≤ suc (length ys)
-    go true ih jh = omega (arith, ih)
-    go false ih jh = omega (arith, jh)
-
 pub distinct_less : (xs : List Text) → length (distinct xs) ≤ length xs
 unfolding all_open
-distinct_less xs = after_less [] xs
+distinct_less xs = distinct_after_most [] xs

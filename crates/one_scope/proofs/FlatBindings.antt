@@ -1,16 +1,16 @@
 -- In a flat tree a name stands for its binding: the first place that declares the name.
 use Rattle.std.specs.Prelude.{◌≡◌, ℕ, Bool, true, false, cond, ◌&&◌, List, [], ◌∷◌, find, Option, Some, None}
 use Rattle.std.proofs.Common.{refl, sym, ap, ◌∙◌}
-use Rattle.one_scope.proofs.FlatLists.{find-same, find_nothing}
-use Rattle.one_scope.proofs.FlatSites.{declaring, homed, nameless, other_declares, plain, referring}
-use Rattle.one_scope.specs.OneScope.{IsFlat}
-use Rattle.one_scope.specs.Open.{all_open}
+use Rattle.list_laws.proofs.FirstOf.{find_same, find_nothing}
+use Rattle.list_laws.proofs.Members.{In}
 use Rattle.tree_nodes.specs.Tree.{Text}
 use Rattle.tree_places.specs.Places.{Place}
 use Rattle.tree_places.specs.Scopes.{Scope, first_outwards, same_scope}
-use Rattle.scope_rules.proofs.Lists.{In}
 use Rattle.scope_rules.specs.Bindings.{binder, binding, declares_at, names_function_at, node, node_of, or_else, plain_binder, same_name, shadower}
 use Rattle.scope_rules.specs.Homes.{declares, declares_plainly, home, is_declaring, names_function, refers}
+use Rattle.one_scope.proofs.FlatSites.{declaring, homed, nameless, other_declares, plain, referring}
+use Rattle.one_scope.specs.OneScope.{IsFlat}
+use Rattle.one_scope.specs.Open.{all_open}
 
 -- it declares this name
 unfoldable pub declares_as : Text → Place → Bool
@@ -35,7 +35,7 @@ or_nothing (Some n) = refl
 module _ (ps : List Place) (flat : (p : Place) → In p ps → IsFlat p.site) where
   plain_first : (x : Text) → plain_binder same_name ps x (0 ∷ []) ≡ first_of ps x
   unfolding all_open declares_as first_of
-  plain_first x = ap node_of (find-same (declares_at same_name x (0 ∷ [])) (declares_as x) ps
+  plain_first x = ap node_of (find_same (declares_at same_name x (0 ∷ [])) (declares_as x) ps
       (λ p i. at (declares_plainly p.site) (is_declaring p.site.setting.role) (same_name p.name x) (home p.site) (plain p.site (flat p i)) (homed p.site (flat p i))))
     where
       at : (a b c : Bool) (h : Scope) → a ≡ b → h ≡ 0 ∷ [] → (a && (same_scope h (0 ∷ []) && c)) ≡ (b && c)

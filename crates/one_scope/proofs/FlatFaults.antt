@@ -1,18 +1,19 @@
 -- The only faults of a flat tree are names that are declared again.
-use Rattle.std.specs.Prelude.{◌≡◌, ℕ, Bool, true, false, not, ◌&&◌, ◌||◌, List, [], ◌∷◌, map, Option, Some, None}
 use Rattle.std.specs.List.{list_any}
+use Rattle.std.specs.Prelude.{◌≡◌, ℕ, Bool, true, false, not, ◌&&◌, ◌||◌, List, [], ◌∷◌, map, Option, Some, None}
 use Rattle.std.proofs.Common.{refl, sym, ap, ◌∙◌, inl, inr}
-use Rattle.one_scope.proofs.FlatSites.{and_no, any_none, homed, joinable, no_plain_function, plain}
+use Rattle.list_laws.proofs.AnyOf.{any_none, any_map, any_same}
+use Rattle.list_laws.proofs.Members.{In}
+use Rattle.tree_places.specs.Places.{Place}
+use Rattle.tree_places.specs.Scopes.{Scope, any_below, same_scope}
+use Rattle.scope_rules.specs.Bindings.{binding, bound, same_name}
+use Rattle.scope_rules.specs.Faults.{crosses, has_crossing, has_fault, has_reach, has_redeclaration, has_sloppy_function, has_undeclared, is_of_body, is_single_at, is_sloppy_function, is_undeclared, reaches_body, redeclares}
+use Rattle.scope_rules.specs.Homes.{declares, declares_plainly, home, is_declaring, is_joinable, is_var, lies_in_var_scope, refers}
+use Rattle.one_scope.proofs.FlatSites.{and_no, homed, joinable, no_plain_function, plain}
 use Rattle.one_scope.specs.Entries.{entry_of}
 use Rattle.one_scope.specs.Flat.{has_flat_fault, redeclares_flat}
 use Rattle.one_scope.specs.OneScope.{IsFlat}
 use Rattle.one_scope.specs.Open.{all_open}
-use Rattle.tree_places.specs.Places.{Place}
-use Rattle.tree_places.specs.Scopes.{Scope, any_below, same_scope}
-use Rattle.scope_rules.proofs.Lists.{In, any-map, any-same}
-use Rattle.scope_rules.specs.Bindings.{binding, bound, same_name}
-use Rattle.scope_rules.specs.Faults.{crosses, has_crossing, has_fault, has_reach, has_redeclaration, has_sloppy_function, has_undeclared, is_of_body, is_single_at, is_sloppy_function, is_undeclared, reaches_body, redeclares}
-use Rattle.scope_rules.specs.Homes.{declares, declares_plainly, home, is_declaring, is_joinable, is_var, lies_in_var_scope, refers}
 
 redeclares_is : (p q : Place) → IsFlat p.site → IsFlat q.site → redeclares same_name p q ≡ redeclares_flat (entry_of p) (entry_of q)
 unfolding all_open
@@ -33,8 +34,8 @@ redeclared : (ps : List Place) → ((p : Place) → In p ps → IsFlat p.site) �
 unfolding all_open
 redeclared [] f = refl
 redeclared (p ∷ ps) f =
-    ap (λ b. b || has_redeclaration same_name ps) (any-same (redeclares same_name p) (λ q. redeclares_flat (entry_of p) (entry_of q)) ps (λ q i. redeclares_is p q (f p (inl refl)) (f q (inr i)))
-    ∙ sym (any-map entry_of (redeclares_flat (entry_of p)) ps))
+    ap (λ b. b || has_redeclaration same_name ps) (any_same (redeclares same_name p) (λ q. redeclares_flat (entry_of p) (entry_of q)) ps (λ q i. redeclares_is p q (f p (inl refl)) (f q (inr i)))
+    ∙ sym (any_map entry_of (redeclares_flat (entry_of p)) ps))
     ∙ ap (λ b. list_any (redeclares_flat (entry_of p)) (map entry_of ps) || b) (redeclared ps (λ q i. f q (inr i)))
 
 module _ (ps : List Place) (flat : (p : Place) → In p ps → IsFlat p.site) where
@@ -63,7 +64,7 @@ module _ (ps : List Place) (flat : (p : Place) → In p ps → IsFlat p.site) wh
 
   no_reach : has_reach (bound same_name ps) ≡ false
   unfolding all_open
-  no_reach = any-map (λ (p : Place). record { place = p; binding = binding same_name ps p }) (reaches_body (bound same_name ps)) ps
+  no_reach = any_map (λ (p : Place). record { place = p; binding = binding same_name ps p }) (reaches_body (bound same_name ps)) ps
       ∙ any_none (λ (p : Place). reaches_body (bound same_name ps) (record { place = p; binding = binding same_name ps p })) ps (λ p i. reached p (flat p i) (binding same_name ps p))
     where
       reached : (p : Place) → IsFlat p.site → (b : Option ℕ) → reaches_body (bound same_name ps) (record { place = p; binding = b }) ≡ false

@@ -1,21 +1,28 @@
 -- In a flat tree the new names are those that the plain definitions give.
-use Rattle.std.specs.Prelude.{◌≡◌, ℕ, zero, suc, ◌+◌, ◌≤◌, ◌<◌, Bool, true, false, cond, not, ◌&&◌, ◌||◌, List, [], ◌∷◌, ◌++◌, map, length, filter, get_or, Option, Some, None, is_some}
 use Rattle.std.specs.List.{position_from}
+use Rattle.std.specs.Prelude.{◌≡◌, ℕ, zero, suc, ◌+◌, ◌≤◌, ◌<◌, Bool, true, false, cond, not, ◌&&◌, ◌||◌, List, [], ◌∷◌, ◌++◌, map, length, filter, get_or, Option, Some, None, is_some}
 use Rattle.std.proofs.Common.{refl, sym, ap, ◌∙◌, subst, arith, inl, inr}
 use Rattle.std.proofs.lemmas.Bool.{both_ways, eq-eqb, eqb-true, ne_eqb}
 use Rattle.std.proofs.lemmas.List.{append_assoc, length-append, length-map}
-use Rattle.one_scope.proofs.FlatKept.{group_named, member}
-use Rattle.one_scope.proofs.FlatLists.{filter-map, filter-same}
-use Rattle.one_scope.proofs.FlatOwners.{grouped_among, leader_named, leaders, leads_at, name_either, name_told, owners_named}
-use Rattle.one_scope.proofs.FlatSites.{declaring, other_declares, referring}
-use Rattle.one_scope.proofs.FlatSlots.{numbered, slot_positioned, slots_counted}
-use Rattle.one_scope.specs.Entries.{Entry, entry_of}
-use Rattle.one_scope.specs.Flat.{flat_free_names, flat_name, flat_new_names, flat_slot, flat_slot_names, flat_weight, is_taken_flat, slot_owners}
-use Rattle.one_scope.specs.OneScope.{IsFlat}
-use Rattle.one_scope.specs.Open.{all_open}
-use Rattle.name_rules.proofs.Given.{from-filter, in-map, in-right, tells}
-use Rattle.name_rules.proofs.Runs.{of-each}
-use Rattle.name_rules.proofs.SlotNamed.{filter-apart, map-apart}
+use Rattle.std.proofs.lemmas.Simd.{map-map}
+use Rattle.list_laws.proofs.AllOf.{AllOf, of_each}
+use Rattle.list_laws.proofs.AnyOf.{any_map, any_same}
+use Rattle.list_laws.proofs.Filtered.{filter_map_before, filter_same}
+use Rattle.list_laws.proofs.Mapped.{map_same}
+use Rattle.list_laws.proofs.Members.{In, from_filter, in_map, in_right}
+use Rattle.list_laws.proofs.PairsOf.{PairsOf_filter, different_map, PairsOf}
+use Rattle.list_laws.proofs.Tests.{tested}
+use Rattle.syntax_lex.specs.Keyword.{is_reserved_keyword}
+use Rattle.tree_nodes.specs.Tree.{Text}
+use Rattle.tree_places.specs.Laws.{RiseFrom}
+use Rattle.tree_places.specs.Places.{Place}
+use Rattle.scope_rules.proofs.PlacesRise.{above, one_place}
+use Rattle.scope_rules.proofs.SameNames.{same_name_tells}
+use Rattle.scope_rules.specs.Bindings.{is_node, node, same_name}
+use Rattle.scope_rules.specs.Evals.{name_eval}
+use Rattle.scope_rules.specs.Homes.{declares, is_reference, refers}
+use Rattle.scope_rules.specs.PrivateNames.{is_among}
+use Rattle.name_rules.proofs.FirstUntaken.{first_untaken_same}
 use Rattle.name_rules.specs.FreeNames.{first_untaken, is_taken, is_unchanged}
 use Rattle.name_rules.specs.GivenNames.{count_from, free_names, new_name, slot_names}
 use Rattle.name_rules.specs.Groups.{Member}
@@ -24,28 +31,14 @@ use Rattle.name_rules.specs.Options.{Options}
 use Rattle.name_rules.specs.PrivateNumbers.{new_private_name, with_private}
 use Rattle.name_rules.specs.ShortNames.{candidate}
 use Rattle.name_rules.specs.Slots.{Slotted, number_of_slots, slot_of, weight}
-use Rattle.syntax_lex.specs.Keyword.{is_reserved_keyword}
-use Rattle.tree_nodes.specs.Tree.{Text}
-use Rattle.tree_places.proofs.Runs.{AllOf, PairsOf}
-use Rattle.tree_places.specs.Laws.{RiseFrom}
-use Rattle.tree_places.specs.Places.{Place}
-use Rattle.scope_rules.proofs.Lists.{In, any-map, any-same, map-map, map-same, tested}
-use Rattle.scope_rules.proofs.Stay.{above, one_place}
-use Rattle.scope_rules.specs.Bindings.{is_node, node, same_name}
-use Rattle.scope_rules.specs.Evals.{name_eval}
-use Rattle.scope_rules.specs.Homes.{declares, is_reference, refers}
-use Rattle.scope_rules.specs.PrivateNames.{is_among}
-
--- ---- free names
-
-untaken_same : (name : ℕ → Text) (t u : Text → Bool) → ((x : Text) → t x ≡ u x) → (fuel n k : ℕ) → first_untaken name t fuel n k ≡ first_untaken name u fuel n k
-unfolding all_open
-untaken_same name t u h zero n k = refl
-untaken_same name t u h (suc fuel) zero k = refl
-untaken_same name t u h (suc fuel) (suc n) k =
-    ap (λ b. elim b as (λ c. List Text) [ true ↦ first_untaken name t fuel (suc n) (suc k) | false ↦ name k ∷ first_untaken name t fuel n (suc k) ]) (h (name k))
-    ∙ ap (λ xs. elim (u (name k)) as (λ c. List Text) [ true ↦ xs | false ↦ name k ∷ first_untaken name t fuel n (suc k) ]) (untaken_same name t u h fuel (suc n) (suc k))
-    ∙ ap (λ xs. elim (u (name k)) as (λ c. List Text) [ true ↦ first_untaken name u fuel (suc n) (suc k) | false ↦ name k ∷ xs ]) (untaken_same name t u h fuel n (suc k))
+use Rattle.one_scope.proofs.FlatKept.{group_named, member}
+use Rattle.one_scope.proofs.FlatOwners.{grouped_among, leader_named, leaders, leads_at, name_either, name_told, owners_named}
+use Rattle.one_scope.proofs.FlatSites.{declaring, other_declares, referring}
+use Rattle.one_scope.proofs.FlatSlots.{numbered, slot_positioned, slots_counted}
+use Rattle.one_scope.specs.Entries.{Entry, entry_of}
+use Rattle.one_scope.specs.Flat.{flat_free_names, flat_name, flat_new_names, flat_slot, flat_slot_names, flat_weight, is_taken_flat, slot_owners}
+use Rattle.one_scope.specs.OneScope.{IsFlat}
+use Rattle.one_scope.specs.Open.{all_open}
 
 -- ---- where a name stands among different ones
 
@@ -70,7 +63,7 @@ positioned a (z ∷ xs) y ys x apart = go (same_name z.name x) refl (positioned 
   where
     other : same_name z.name x ≡ true → same_name x y.name ≡ false
     other e = tested (same_name x y.name)
-        (λ h. absurd (of-each (λ w. z.name ≡ w → ⊥) (map (λ p. p.name) (xs ++ y ∷ ys)) y.name apart.0 (in-map (λ (p : Place). p.name) (xs ++ y ∷ ys) y (in-right xs (y ∷ ys) y (inl refl)))
+        (λ h. absurd (of_each (λ w. z.name ≡ w → ⊥) (map (λ p. p.name) (xs ++ y ∷ ys)) y.name apart.0 (in_map (λ (p : Place). p.name) (xs ++ y ∷ ys) y (in_right xs (y ∷ ys) y (inl refl)))
         (name_told z.name x e ∙ name_told x y.name h)))
         (λ h. h)
 
@@ -79,10 +72,10 @@ positioned a (z ∷ xs) y ys x apart = go (same_name z.name x) refl (positioned 
     go true e ih = ne_eqb a (suc (length xs) + a) (λ q. omega (arith, q)) ∙ sym (other e)
     go false e ih = ap (is_node (position_from (λ w. same_name w x) (a + 1) (map (λ p. p.name) (xs ++ y ∷ ys)))) (let e' : suc (length xs) + a ≡ length xs + (a + 1) = omega arith in e') ∙ ih
 
-rise-apart : (n : ℕ) (ps : List Place) → RiseFrom n (map node ps) → PairsOf (λ p q. p ≡ q → ⊥) ps
+rise_apart : (n : ℕ) (ps : List Place) → RiseFrom n (map node ps) → PairsOf (λ p q. p ≡ q → ⊥) ps
 unfolding all_open
-rise-apart n [] r = tt
-rise-apart n (p ∷ ps) r = (each ps (λ q i. above (suc (node p)) ps q r.1 i), rise-apart (suc (node p)) ps r.1)
+rise_apart n [] r = tt
+rise_apart n (p ∷ ps) r = (each ps (λ q i. above (suc (node p)) ps q r.1 i), rise_apart (suc (node p)) ps r.1)
   where
     each : (qs : List Place) → ((q : Place) → In q qs → suc (node p) ≤ node q) → AllOf (λ q. p ≡ q → ⊥) qs
     each [] f = tt
@@ -106,10 +99,10 @@ module _ (o : Options) (ps : List Place) (flat : (p : Place) → In p ps → IsF
   abbrev es : List Entry
   es = map entry_of ps
 
-  owners-apart : PairsOf (λ x y. x ≡ y → ⊥) owners
+  slot_owners_differ : PairsOf (λ x y. x ≡ y → ⊥) owners
   unfolding all_open leaders
-  owners-apart = map-apart (λ (p : Place). p.name) (leaders o ps) (filter-apart (λ p q. p ≡ q → ⊥) (leads_at o ps) ps (rise-apart 0 ps order))
-      (λ l m i j e. one_place 0 ps l m order (from-filter (leads_at o ps) ps l i).0 (from-filter (leads_at o ps) ps m j).0
+  slot_owners_differ = different_map (λ (p : Place). p.name) (leaders o ps) (PairsOf_filter (λ p q. p ≡ q → ⊥) (leads_at o ps) ps (rise_apart 0 ps order))
+      (λ l m i j e. one_place 0 ps l m order (from_filter (leads_at o ps) ps l i).0 (from_filter (leads_at o ps) ps m j).0
       (same_node (group_named o ps l.name) (node l) (node m) (leader_named o ps flat order l i l.name ∙ (name_itself l.name)) (leader_named o ps flat order m j l.name ∙ ap (λ x. same_name x l.name) (sym e) ∙ name_itself l.name)))
     where
       same_node : (g : Option ℕ) (m n : ℕ) → is_node g m ≡ true → is_node g n ≡ true → m ≡ n
@@ -117,7 +110,7 @@ module _ (o : Options) (ps : List Place) (flat : (p : Place) → In p ps → IsF
       same_node (Some k) m n e f = sym (eqb-true k m e) ∙ eqb-true k n f
 
       name_itself : (x : Text) → same_name x x ≡ true
-      name_itself x = (tells x x).1 refl
+      name_itself x = (same_name_tells x x).1 refl
 
   slot_named : (x : Text) → slot_of bs (group_named o ps x) ≡ flat_slot owners x
   unfolding all_open
@@ -135,36 +128,36 @@ module _ (o : Options) (ps : List Place) (flat : (p : Place) → In p ps → IsF
   unfolding all_open member
   taken_same x =
       ap (λ b. is_reserved_keyword x || same_name x name_eval || is_reserved o x || b)
-      (any-map (member o ps) (λ m. is_unchanged m && same_name m.place.name x) ps
-      ∙ any-same (λ p. is_unchanged (member o ps p) && same_name p.name x) (λ p. not (is_among owners p.name) && same_name p.name x) ps
+      (any_map (member o ps) (λ m. is_unchanged m && same_name m.place.name x) ps
+      ∙ any_same (λ p. is_unchanged (member o ps p) && same_name p.name x) (λ p. not (is_among owners p.name) && same_name p.name x) ps
       (λ p i. ap (λ b. (b && not (is_some (group_named o ps p.name))) && same_name p.name x) (is_variable_place p i)
       ∙ ap (λ b. not b && same_name p.name x) (grouped_among o ps flat order p.name))
-      ∙ sym (any-map entry_of (λ e. not (is_among owners e.name) && same_name e.name x) ps))
+      ∙ sym (any_map entry_of (λ e. not (is_among owners e.name) && same_name e.name x) ps))
 
   free_same : free_names o ms (number_of_slots bs) ≡ flat_free_names o es owners
   unfolding all_open
   free_same =
       ap (free_names o ms) (slots_counted (leaders o ps) ∙ sym (length-map (leaders o ps) (λ p. p.name)))
       ∙ ap (λ n. first_untaken (candidate o.readable) (is_taken o ms) (length owners + 48 + length o.reserved + n) (length owners) 0) (length-map ps (member o ps) ∙ sym (length-map ps entry_of))
-      ∙ untaken_same (candidate o.readable) (is_taken o ms) (is_taken_flat o es owners) taken_same (length owners + 48 + length o.reserved + length es) (length owners) 0
+      ∙ first_untaken_same (candidate o.readable) (is_taken o ms) (is_taken_flat o es owners) taken_same (length owners + 48 + length o.reserved + length es) (length owners) 0
 
   weight_same : (done : List Place) (l : Place) (rest : List Place) → done ++ l ∷ rest ≡ leaders o ps → weight ms bs (length done) ≡ flat_weight es l.name
   unfolding all_open member
   weight_same done l rest all =
-      ap length (filter-map (member o ps) (λ m. refers m.place.site && is_node (slot_of bs m.group) (length done)) ps)
+      ap length (filter_map_before (member o ps) (λ m. refers m.place.site && is_node (slot_of bs m.group) (length done)) ps)
       ∙ length-map (filter (λ p. refers p.site && is_node (slot_of bs (group_named o ps p.name)) (length done)) ps) (member o ps)
-      ∙ ap length (filter-same (λ p. refers p.site && is_node (slot_of bs (group_named o ps p.name)) (length done)) (λ p. is_reference p.site.setting.role && same_name p.name l.name) ps
+      ∙ ap length (filter_same (λ p. refers p.site && is_node (slot_of bs (group_named o ps p.name)) (length done)) (λ p. is_reference p.site.setting.role && same_name p.name l.name) ps
       (λ p i. ap (λ b. b && is_node (slot_of bs (group_named o ps p.name)) (length done)) (referring p.site (flat p i))
       ∙ ap (λ b. is_reference p.site.setting.role && b) (at p.name)))
       ∙ sym (length-map (filter (λ p. is_reference p.site.setting.role && same_name p.name l.name) ps) entry_of)
-      ∙ sym (ap length (filter-map entry_of (λ e. is_reference e.role && same_name e.name l.name) ps))
+      ∙ sym (ap length (filter_map_before entry_of (λ e. is_reference e.role && same_name e.name l.name) ps))
     where
       at : (x : Text) → is_node (slot_of bs (group_named o ps x)) (length done) ≡ same_name x l.name
       at x =
           ap (λ q. is_node q (length done)) (slot_named x)
           ∙ ap (λ k. is_node (flat_slot owners x) k) (let e : length done ≡ length done + 0 = omega arith in e)
           ∙ ap (λ (ls : List Place). is_node (flat_slot (map (λ p. p.name) ls) x) (length done + 0)) (sym all)
-          ∙ positioned 0 done l rest x (subst (λ (ls : List Place). PairsOf (λ v w. v ≡ w → ⊥) (map (λ p. p.name) ls)) (sym all) owners-apart)
+          ∙ positioned 0 done l rest x (subst (λ (ls : List Place). PairsOf (λ v w. v ≡ w → ⊥) (map (λ p. p.name) ls)) (sym all) slot_owners_differ)
 
   weights_same : (done rest : List Place) → done ++ rest ≡ leaders o ps → map (weight ms bs) (count_from (length rest) (length done)) ≡ map (flat_weight es) (map (λ p. p.name) rest)
   unfolding all_open
@@ -186,10 +179,10 @@ module _ (o : Options) (ps : List Place) (flat : (p : Place) → In p ps → IsF
   unfolding all_open member
   given_same =
       ap (λ xs. map (new_name bs xs) ms) names_same
-      ∙ map-map (member o ps) (new_name bs (flat_slot_names o es)) ps
-      ∙ map-same (λ p. new_name bs (flat_slot_names o es) (member o ps p)) (λ p. flat_name (slot_owners o es) (flat_slot_names o es) (entry_of p)) ps
+      ∙ map-map (new_name bs (flat_slot_names o es)) (member o ps) ps
+      ∙ map_same (λ p. new_name bs (flat_slot_names o es) (member o ps p)) (λ p. flat_name (slot_owners o es) (flat_slot_names o es) (entry_of p)) ps
       (λ p i. ap (λ q. elim q as (λ r. Text) [ None ↦ p.name | Some k ↦ get_or (flat_slot_names o es) k [] ]) (slot_named p.name ∙ ap (λ xs. flat_slot xs p.name) (owners_named o ps flat order)))
-      ∙ sym (map-map entry_of (flat_name (slot_owners o es) (flat_slot_names o es)) ps)
+      ∙ sym (map-map (flat_name (slot_owners o es) (flat_slot_names o es)) entry_of ps)
 
 -- no name is private
 pub none_private : (all ps : List Place) (f : Entry → Text) → ((p : Place) → In p ps → IsFlat p.site) → with_private all ps (map f (map entry_of ps)) ≡ map f (map entry_of ps)

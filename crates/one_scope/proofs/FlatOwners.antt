@@ -1,39 +1,42 @@
 -- In a flat tree the leaders of groups are the first places of the names that are given up, in their order.
-use Rattle.std.specs.Prelude.{◌≡◌, ◌⊎◌, ℕ, suc, ◌≤◌, Bool, true, false, cond, not, ◌&&◌, ◌||◌, List, [], ◌∷◌, ◌++◌, map, filter, find, Option, Some, None, is_some}
 use Rattle.std.specs.List.{list_any}
+use Rattle.std.specs.Prelude.{◌≡◌, ◌⊎◌, ℕ, suc, ◌≤◌, Bool, true, false, cond, not, ◌&&◌, ◌||◌, List, [], ◌∷◌, ◌++◌, map, filter, find, Option, Some, None, is_some}
 use Rattle.std.proofs.Common.{refl, sym, ap, ◌∙◌, subst, arith, inl, inr}
 use Rattle.std.proofs.lemmas.Bool.{and_parts, and_from, both_ways, eq-eqb, eqb-true, ne_eqb}
 use Rattle.std.proofs.lemmas.List.{append_assoc}
 use Rattle.std.proofs.lemmas.List.Folds.{list_any-append}
+use Rattle.list_laws.proofs.AnyOf.{any_from, any_map, any_some}
+use Rattle.list_laws.proofs.Filtered.{filter_same, filter_none, filter_twice}
+use Rattle.list_laws.proofs.FirstOf.{find_early, find_past, First, find_first}
+use Rattle.list_laws.proofs.Members.{In, from_filter, in_filter, in_right}
+use Rattle.list_laws.proofs.Tests.{tests_agree, tested, told}
+use Rattle.tree_nodes.specs.Tree.{Text}
+use Rattle.tree_places.specs.Laws.{RiseFrom}
+use Rattle.tree_places.specs.Places.{Place}
+use Rattle.scope_rules.proofs.PlacesRise.{above, one_place}
+use Rattle.scope_rules.proofs.SameNames.{same_name_tells}
+use Rattle.scope_rules.specs.Bindings.{is_node, node, node_of, same_name}
+use Rattle.scope_rules.specs.Homes.{declares, is_declaring}
+use Rattle.scope_rules.specs.PrivateNames.{distinct_after, is_among}
+use Rattle.name_rules.specs.Groups.{leads}
+use Rattle.name_rules.specs.Kept.{is_reserved}
+use Rattle.name_rules.specs.Options.{Options}
 use Rattle.one_scope.proofs.FlatBindings.{declares_as, first_of}
 use Rattle.one_scope.proofs.FlatKept.{group_named, keeps, member}
-use Rattle.one_scope.proofs.FlatLists.{bool_same, filter-same, filter_none, filter_twice, find_early, find_past}
 use Rattle.one_scope.proofs.FlatSites.{and_no, declaring}
 use Rattle.one_scope.specs.Entries.{Entry, entry_of}
 use Rattle.one_scope.specs.Flat.{declared_names, keeps_all, slot_owners}
 use Rattle.one_scope.specs.OneScope.{IsFlat}
 use Rattle.one_scope.specs.Open.{all_open}
-use Rattle.name_rules.proofs.Given.{from-filter, in-filter, in-right, tells}
-use Rattle.name_rules.specs.Groups.{leads}
-use Rattle.name_rules.specs.Kept.{is_reserved}
-use Rattle.name_rules.specs.Options.{Options}
-use Rattle.tree_nodes.specs.Tree.{Text}
-use Rattle.tree_places.specs.Laws.{RiseFrom}
-use Rattle.tree_places.specs.Places.{Place}
-use Rattle.scope_rules.proofs.Lists.{First, In, any-from, any-map, any-some, find-first, tested, told}
-use Rattle.scope_rules.proofs.Stay.{above, one_place}
-use Rattle.scope_rules.specs.Bindings.{is_node, node, node_of, same_name}
-use Rattle.scope_rules.specs.Homes.{declares, is_declaring}
-use Rattle.scope_rules.specs.PrivateNames.{distinct_after, is_among}
 
 pub name_told : (x y : Text) → same_name x y ≡ true → x ≡ y
-name_told x y = (tells x y).0
+name_told x y = (same_name_tells x y).0
 
 name_same : (x y : Text) → x ≡ y → same_name x y ≡ true
-name_same x y = (tells x y).1
+name_same x y = (same_name_tells x y).1
 
 pub name_either : (x y : Text) → same_name x y ≡ same_name y x
-name_either x y = bool_same (same_name x y) (same_name y x) (λ e. name_same y x (sym (name_told x y e))) (λ e. name_same x y (sym (name_told y x e)))
+name_either x y = tests_agree (same_name x y) (same_name y x) (λ e. name_same y x (sym (name_told x y e))) (λ e. name_same x y (sym (name_told y x e)))
 
 -- ---- the first places of the declared names
 
@@ -47,7 +50,7 @@ apart_in n [] ys c p r i j e = i
 apart_in n (x ∷ xs) ys c p r i j e = go i (apart_in (suc (node x)) xs ys c p r.1)
   where
     go : (x ≡ c) ⊎ In c xs → (In c xs → In p ys → node c ≡ node p → ⊥) → ⊥
-    go (inl s) ih = let h : suc (node x) ≤ node p = above (suc (node x)) (xs ++ ys) p r.1 (in-right xs ys p j) in let k : node x ≡ node c = ap node s in omega (arith, h, k, e)
+    go (inl s) ih = let h : suc (node x) ≤ node p = above (suc (node x)) (xs ++ ys) p r.1 (in_right xs ys p j) in let k : node x ≡ node c = ap node s in omega (arith, h, k, e)
     go (inr k) ih = ih k j e
 
 module _ (seen : List Place) (p : Place) (rest : List Place) (order : RiseFrom 0 (map node (seen ++ p ∷ rest))) (d : is_declaring p.site.setting.role ≡ true) where
@@ -181,7 +184,7 @@ module _ (o : Options) (ps : List Place) (flat : (p : Place) → In p ps → IsF
 
       some : keeps_all o (map entry_of ps) ≡ false → map (λ p. p.name) (filter (leads_at o ps) ps) ≡ slot_owners o (map entry_of ps)
       some e =
-          ap (map (λ p. p.name)) (filter-same (leads_at o ps) (λ p. is_first ps p && not (is_reserved o p.name)) ps
+          ap (map (λ p. p.name)) (filter_same (leads_at o ps) (λ p. is_first ps p && not (is_reserved o p.name)) ps
           (λ p i. leads_where p i ∙ ap (λ b. is_first ps p && not (b || is_reserved o p.name)) e))
           ∙ filter_twice (λ (p : Place). p.name) (is_first ps) (λ x. not (is_reserved o x)) ps
           ∙ ap (filter (λ x. not (is_reserved o x))) (firsts_named ps [] ps [] order refl (λ x. refl))
@@ -190,14 +193,14 @@ module _ (o : Options) (ps : List Place) (flat : (p : Place) → In p ps → IsF
   -- a leader leads the group of its name, and of no other
   pub leader_named : (l : Place) → In l (leaders o ps) → (x : Text) → is_node (group_named o ps x) (node l) ≡ same_name l.name x
   unfolding all_open leaders leads_at group_named first_of declares_as member
-  leader_named l i x = bool_same (is_node (group_named o ps x) (node l)) (same_name l.name x) to from
+  leader_named l i x = tests_agree (is_node (group_named o ps x) (node l)) (same_name l.name x) to from
     where
       to : is_node (cond (keeps o ps x) None (first_of ps x)) (node l) ≡ true → same_name l.name x ≡ true
       to h = told (find (declares_as x) ps)
           (λ none. absurd (nothing (keeps o ps x) (sym (ap (λ q. is_node (cond (keeps o ps x) None (node_of q)) (node l)) none) ∙ h)))
-          (λ c e. let f : First (declares_as x) ps c = find-first (declares_as x) ps c e in
+          (λ c e. let f : First (declares_as x) ps c = find_first (declares_as x) ps c e in
           subst (λ (p : Place). same_name p.name x ≡ true)
-          (one_place 0 ps c l order f.among (from-filter (leads_at o ps) ps l i).0 (number c (keeps o ps x) (sym (ap (λ q. is_node (cond (keeps o ps x) None (node_of q)) (node l)) e) ∙ h)))
+          (one_place 0 ps c l order f.among (from_filter (leads_at o ps) ps l i).0 (number c (keeps o ps x) (sym (ap (λ q. is_node (cond (keeps o ps x) None (node_of q)) (node l)) e) ∙ h)))
           (and_parts (is_declaring c.site.setting.role) (same_name c.name x) f.passes).1)
         where
           nothing : (k : Bool) → is_node (cond k None None) (node l) ≡ true → ⊥
@@ -210,12 +213,12 @@ module _ (o : Options) (ps : List Place) (flat : (p : Place) → In p ps → IsF
 
       from : same_name l.name x ≡ true → is_node (group_named o ps x) (node l) ≡ true
       from h = subst (λ (y : Text). is_node (group_named o ps y) (node l) ≡ true) (name_told l.name x h)
-          (and_parts (declares l.site && is_node (first_of ps l.name) (node l)) (is_node (group_named o ps l.name) (node l)) (from-filter (leads_at o ps) ps l i).1).1
+          (and_parts (declares l.site && is_node (first_of ps l.name) (node l)) (is_node (group_named o ps l.name) (node l)) (from_filter (leads_at o ps) ps l i).1).1
 
   -- a name has a group where a leader has it
   pub grouped_among : (x : Text) → is_some (group_named o ps x) ≡ is_among (map (λ p. p.name) (leaders o ps)) x
   unfolding all_open leaders leads_at group_named first_of declares_as member
-  grouped_among x = bool_same (is_some (group_named o ps x)) (is_among (map (λ p. p.name) (leaders o ps)) x) to from
+  grouped_among x = tests_agree (is_some (group_named o ps x)) (is_among (map (λ p. p.name) (leaders o ps)) x) to from
     where
       unkept : (k : Bool) (q : Option ℕ) → is_some (cond k None q) ≡ true → k ≡ false
       unkept true q e = absurd (both_ways false refl e)
@@ -225,14 +228,14 @@ module _ (o : Options) (ps : List Place) (flat : (p : Place) → In p ps → IsF
       to h = told (find (declares_as x) ps)
           (λ none. absurd (nothing (keeps o ps x) (first_of ps x) (ap node_of none) h))
           (λ c e.
-          let f : First (declares_as x) ps c = find-first (declares_as x) ps c e in
+          let f : First (declares_as x) ps c = find_first (declares_as x) ps c e in
           let two : (is_declaring c.site.setting.role ≡ true) × (same_name c.name x ≡ true) = and_parts (is_declaring c.site.setting.role) (same_name c.name x) f.passes in
           let first : first_of ps c.name ≡ Some (node c) = ap (first_of ps) (name_told c.name x two.1) ∙ ap node_of e in
           let group : group_named o ps c.name ≡ Some (node c) = ap (group_named o ps) (name_told c.name x two.1) ∙ ap (λ k. cond k None (first_of ps x)) (unkept (keeps o ps x) (first_of ps x) h) ∙ ap node_of e in
           let own : (q : Option ℕ) → q ≡ Some (node c) → is_node q (node c) ≡ true = λ q w. ap (λ r. is_node r (node c)) w ∙ eq-eqb (node c) (node c) refl in
-          any-map (λ (p : Place). p.name) (same_name x) (leaders o ps)
-          ∙ any-from (λ (p : Place). same_name x p.name) (leaders o ps) c
-          (in-filter (leads_at o ps) ps c f.among (and_from _ _ (and_from _ _ (declaring c.site (flat c f.among) ∙ two.0) (own (first_of ps c.name) first)) (own (group_named o ps c.name) group)))
+          any_map (λ (p : Place). p.name) (same_name x) (leaders o ps)
+          ∙ any_from (λ (p : Place). same_name x p.name) (leaders o ps) c
+          (in_filter (leads_at o ps) ps c f.among (and_from _ _ (and_from _ _ (declaring c.site (flat c f.among) ∙ two.0) (own (first_of ps c.name) first)) (own (group_named o ps c.name) group)))
           (name_same x c.name (sym (name_told c.name x two.1))))
         where
           nothing : (k : Bool) (q : Option ℕ) → q ≡ None → is_some (cond k None q) ≡ true → ⊥
@@ -241,7 +244,7 @@ module _ (o : Options) (ps : List Place) (flat : (p : Place) → In p ps → IsF
 
       from : is_among (map (λ p. p.name) (leaders o ps)) x ≡ true → is_some (group_named o ps x) ≡ true
       from h =
-          let w : (l : Place) × In l (leaders o ps) × (same_name x l.name ≡ true) = any-some (λ (p : Place). same_name x p.name) (leaders o ps) (sym (any-map (λ (p : Place). p.name) (same_name x) (leaders o ps)) ∙ h) in
+          let w : (l : Place) × In l (leaders o ps) × (same_name x l.name ≡ true) = any_some (λ (p : Place). same_name x p.name) (leaders o ps) (sym (any_map (λ (p : Place). p.name) (same_name x) (leaders o ps)) ∙ h) in
           some (group_named o ps x) (node w.0) (leader_named w.0 w.1 x ∙ name_either w.0.name x ∙ w.2)
         where
           some : (q : Option ℕ) (n : ℕ) → is_node q n ≡ true → is_some q ≡ true

@@ -1,20 +1,20 @@
 -- What a flat site is to names: it lies in the one scope, and its role says the rest.
-use Rattle.std.specs.Prelude.{◌≡◌, Bool, true, false, cond, not, ◌&&◌, List, [], ◌∷◌}
 use Rattle.std.specs.List.{list_any}
+use Rattle.std.specs.Prelude.{◌≡◌, Bool, true, false, cond, not, ◌&&◌, List, [], ◌∷◌}
 use Rattle.std.proofs.Common.{refl, ap, ◌∙◌}
 use Rattle.std.proofs.lemmas.Bool.{both_ways}
-use Rattle.one_scope.specs.OneScope.{IsFlat, is_flat_declared, is_flat_role, is_flat_value}
-use Rattle.one_scope.specs.Open.{all_open}
-use Rattle.name_rules.specs.Kept.{role_kept, value_kept}
-use Rattle.name_rules.specs.Options.{Options}
+use Rattle.list_laws.proofs.Members.{In}
 use Rattle.tree_nodes.specs.declared.table.Declared.{Declared}
 use Rattle.tree_nodes.specs.declared.table.Declared.TheVariants.{Class, ClassName, Const, Function, FunctionName, Let, Var}
 use Rattle.tree_nodes.specs.declared.table.Role.{Role}
 use Rattle.tree_nodes.specs.declared.table.Role.TheVariants.{Called, Declares, Read}
 use Rattle.tree_places.specs.Places.{Site, Value, no_value, other_value}
-use Rattle.scope_rules.proofs.Lists.{In, any-same}
 use Rattle.scope_rules.specs.Faults.{is_plain_function}
 use Rattle.scope_rules.specs.Homes.{declares, declares_plainly, home, is_declaring, is_function_name, is_joinable, is_reference, is_var, joins, lies_in_var_scope, names_function, refers}
+use Rattle.name_rules.specs.Kept.{role_kept, value_kept}
+use Rattle.name_rules.specs.Options.{Options}
+use Rattle.one_scope.specs.OneScope.{IsFlat, is_flat_declared, is_flat_role, is_flat_value}
+use Rattle.one_scope.specs.Open.{all_open}
 
 -- ---- of Bool, and of tests that nothing passes
 
@@ -25,13 +25,6 @@ and_no false = refl
 pub and_yes : (b : Bool) → (b && true) ≡ b
 and_yes true = refl
 and_yes false = refl
-
-never : {X : Type 0} (xs : List X) → list_any (λ x. false) xs ≡ false
-never [] = refl
-never (x ∷ xs) = never xs
-
-pub any_none : {X : Type 0} (test : X → Bool) (xs : List X) → ((x : X) → In x xs → test x ≡ false) → list_any test xs ≡ false
-any_none test xs h = any-same test (λ x. false) xs h ∙ never xs
 
 -- ---- of the roles at flat sites
 

@@ -1,27 +1,29 @@
 -- In a flat tree each group has a slot of its own, by rising leader.
-use Rattle.std.specs.Prelude.{◌≡◌, ◌⊎◌, ℕ, zero, suc, ◌+◌, ◌≤◌, ◌<◌, max, Bool, true, false, cond, ◌||◌, nat_eq, List, [], ◌∷◌, ◌++◌, map, length, filter, find, Option, Some, None}
 use Rattle.std.specs.List.{list_any, position_from}
+use Rattle.std.specs.Prelude.{◌≡◌, ◌⊎◌, ℕ, zero, suc, ◌+◌, ◌≤◌, ◌<◌, max, Bool, true, false, cond, ◌||◌, nat_eq, List, [], ◌∷◌, ◌++◌, map, length, filter, find, Option, Some, None}
 use Rattle.std.proofs.Common.{refl, sym, ap, ◌∙◌, subst, arith, inl, inr}
 use Rattle.std.proofs.lemmas.Bool.{or_left, or_right, cases_order, eq-eqb, eqb-true, ne_eqb}
 use Rattle.std.proofs.lemmas.List.{append-nil, append_assoc}
-use Rattle.one_scope.proofs.FlatKept.{member}
-use Rattle.one_scope.proofs.FlatLists.{bool_same, filter-map, filter_all}
-use Rattle.one_scope.proofs.FlatOwners.{leaders, leads_at}
-use Rattle.one_scope.proofs.FlatSites.{homed}
-use Rattle.one_scope.specs.OneScope.{IsFlat}
-use Rattle.one_scope.specs.Open.{all_open}
-use Rattle.name_rules.proofs.Given.{from-filter, from-map}
+use Rattle.std.proofs.lemmas.Simd.{map-map}
+use Rattle.list_laws.proofs.Filtered.{filter_map_before, filter_all}
+use Rattle.list_laws.proofs.Mapped.{map_same}
+use Rattle.list_laws.proofs.Members.{In, from_filter, from_map}
+use Rattle.list_laws.proofs.Tests.{tests_agree}
+use Rattle.tree_nodes.specs.Tree.{Text}
+use Rattle.tree_places.proofs.Outwards.{same_scope_refl}
+use Rattle.tree_places.specs.Places.{Place}
+use Rattle.tree_places.specs.Scopes.{same_scope}
+use Rattle.scope_rules.specs.Bindings.{is_node, node, same_name}
+use Rattle.scope_rules.specs.Homes.{home}
 use Rattle.name_rules.specs.GivenNames.{count_from}
 use Rattle.name_rules.specs.Groups.{Group, Member, greatest, group_led_by, groups, leads}
 use Rattle.name_rules.specs.Options.{Options}
 use Rattle.name_rules.specs.Slots.{Slotted, least_missing, number_of_slots, slot_after, slot_of, slots, slots_after, slots_live}
-use Rattle.tree_nodes.specs.Tree.{Text}
-use Rattle.tree_places.proofs.Outwards.{same-refl}
-use Rattle.tree_places.specs.Places.{Place}
-use Rattle.tree_places.specs.Scopes.{same_scope}
-use Rattle.scope_rules.proofs.Lists.{In, map-map, map-same}
-use Rattle.scope_rules.specs.Bindings.{is_node, node, same_name}
-use Rattle.scope_rules.specs.Homes.{home}
+use Rattle.one_scope.proofs.FlatKept.{member}
+use Rattle.one_scope.proofs.FlatOwners.{leaders, leads_at}
+use Rattle.one_scope.proofs.FlatSites.{homed}
+use Rattle.one_scope.specs.OneScope.{IsFlat}
+use Rattle.one_scope.specs.Open.{all_open}
 
 -- the group that a place leads in the one scope, and groups with the slots from k on
 unfoldable pub root_group : Place → Group
@@ -34,18 +36,18 @@ numbered k (p ∷ ps) = record { group = root_group p; slot = k } ∷ numbered (
 module _ (o : Options) (ps : List Place) (flat : (p : Place) → In p ps → IsFlat p.site) where
   leaders_home : (p : Place) → In p (leaders o ps) → home p.site ≡ 0 ∷ []
   unfolding leaders
-  leaders_home p i = homed p.site (flat p (from-filter (leads_at o ps) ps p i).0)
+  leaders_home p i = homed p.site (flat p (from_filter (leads_at o ps) ps p i).0)
 
   pub groups_led : groups ((0 ∷ []) ∷ []) (map (member o ps) ps) ≡ map root_group (leaders o ps)
   unfolding all_open leaders leads_at root_group member
   groups_led =
       append-nil (map group_led_by (filter (λ m. same_scope (home m.place.site) (0 ∷ [])) (filter leads (map (member o ps) ps))))
-      ∙ ap (λ ms. map group_led_by (filter (λ m. same_scope (home m.place.site) (0 ∷ [])) ms)) (filter-map (member o ps) leads ps)
+      ∙ ap (λ ms. map group_led_by (filter (λ m. same_scope (home m.place.site) (0 ∷ [])) ms)) (filter_map_before (member o ps) leads ps)
       ∙ ap (map group_led_by) (filter_all (λ m. same_scope (home m.place.site) (0 ∷ [])) (map (member o ps) (leaders o ps))
-      (λ m i. let w : (p : Place) × In p (leaders o ps) × (member o ps p ≡ m) = from-map (member o ps) (leaders o ps) m i in
-      subst (λ (x : Member). same_scope (home x.place.site) (0 ∷ []) ≡ true) w.2 (ap (λ s. same_scope s (0 ∷ [])) (leaders_home w.0 w.1) ∙ same-refl (0 ∷ []))))
-      ∙ map-map (member o ps) group_led_by (leaders o ps)
-      ∙ map-same (λ p. group_led_by (member o ps p)) root_group (leaders o ps) (λ p i. ap (λ s. record { leader = node p; home = s }) (leaders_home p i))
+      (λ m i. let w : (p : Place) × In p (leaders o ps) × (member o ps p ≡ m) = from_map (member o ps) (leaders o ps) m i in
+      subst (λ (x : Member). same_scope (home x.place.site) (0 ∷ []) ≡ true) w.2 (ap (λ s. same_scope s (0 ∷ [])) (leaders_home w.0 w.1) ∙ same_scope_refl (0 ∷ []))))
+      ∙ map-map group_led_by (member o ps) (leaders o ps)
+      ∙ map_same (λ p. group_led_by (member o ps p)) root_group (leaders o ps) (λ p i. ap (λ s. record { leader = node p; home = s }) (leaders_home p i))
 
 -- ---- the next slot
 
@@ -94,19 +96,19 @@ next_slot ms done p =
     ∙ missing (suc (greatest (count_from (length done) 0))) (length done) 0 (omega arith)
     (let h : length done + 0 ≤ max 0 (suc (greatest (count_from (length done) 0))) = greatest_counted (length done) 0 in omega (arith, h))
 
-numbered-push : (k : ℕ) (done : List Place) (p : Place) → numbered k done ++ record { group = root_group p; slot = length done + k } ∷ [] ≡ numbered k (done ++ p ∷ [])
+numbered_push : (k : ℕ) (done : List Place) (p : Place) → numbered k done ++ record { group = root_group p; slot = length done + k } ∷ [] ≡ numbered k (done ++ p ∷ [])
 unfolding all_open numbered
-numbered-push k [] p = ap (λ n. record { group = root_group p; slot = n } ∷ []) (let e : 0 + k ≡ k = omega arith in e)
-numbered-push k (q ∷ done) p =
+numbered_push k [] p = ap (λ n. record { group = root_group p; slot = n } ∷ []) (let e : 0 + k ≡ k = omega arith in e)
+numbered_push k (q ∷ done) p =
     ap (λ ds. record { group = root_group q; slot = k } ∷ ds)
-    (ap (λ n. numbered (suc k) done ++ record { group = root_group p; slot = n } ∷ []) (let e : suc (length done) + k ≡ length done + suc k = omega arith in e) ∙ numbered-push (suc k) done p)
+    (ap (λ n. numbered (suc k) done ++ record { group = root_group p; slot = n } ∷ []) (let e : suc (length done) + k ≡ length done + suc k = omega arith in e) ∙ numbered_push (suc k) done p)
 
 slots_numbered : (ms : List Member) (done rest : List Place) → slots_after ms (numbered 0 done) (map root_group rest) ≡ numbered 0 (done ++ rest)
 unfolding all_open
 slots_numbered ms done [] = ap (numbered 0) (sym (append-nil done))
 slots_numbered ms done (p ∷ rest) =
     ap (λ n. slots_after ms (numbered 0 done ++ record { group = root_group p; slot = n } ∷ []) (map root_group rest)) (next_slot ms done p ∙ (let e : length done ≡ length done + 0 = omega arith in e))
-    ∙ ap (λ ds. slots_after ms ds (map root_group rest)) (numbered-push 0 done p)
+    ∙ ap (λ ds. slots_after ms ds (map root_group rest)) (numbered_push 0 done p)
     ∙ slots_numbered ms (done ++ p ∷ []) rest
     ∙ ap (numbered 0) (append_assoc done (p ∷ []) rest)
 
@@ -137,7 +139,7 @@ slot_positioned k (l ∷ ls) None x h =
 slot_positioned k (l ∷ ls) (Some n) x h = go (nat_eq (node l) n) (same_name l.name x) (flip ∙ h l (inl refl)) (slot_positioned (suc k) ls (Some n) x (λ m i. h m (inr i)))
   where
     flip : nat_eq (node l) n ≡ nat_eq n (node l)
-    flip = bool_same (nat_eq (node l) n) (nat_eq n (node l)) (λ e. eq-eqb n (node l) (sym (eqb-true (node l) n e))) (λ e. eq-eqb (node l) n (sym (eqb-true n (node l) e)))
+    flip = tests_agree (nat_eq (node l) n) (nat_eq n (node l)) (λ e. eq-eqb n (node l) (sym (eqb-true (node l) n e))) (λ e. eq-eqb (node l) n (sym (eqb-true n (node l) e)))
 
     go : (a b : Bool) → a ≡ b → slot_of (numbered (suc k) ls) (Some n) ≡ position_from (λ y. same_name y x) (suc k) (map (λ p. p.name) ls)
         → elim (cond a (Some (record { group = root_group l; slot = k })) (find (λ c. nat_eq c.group.leader n) (numbered (suc k) ls))) as (λ q. Option ℕ) [ None ↦ None | Some c ↦ Some c.slot ]

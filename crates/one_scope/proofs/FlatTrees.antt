@@ -1,6 +1,16 @@
 -- The laws on flat trees: their places are flat, so their faults and new names are those that the plain definitions say.
 use Rattle.std.specs.Prelude.{◌≡◌, [], ◌∷◌, map}
 use Rattle.std.proofs.Common.{ap, ◌∙◌}
+use Rattle.list_laws.proofs.AllOf.{of_each}
+use Rattle.list_laws.proofs.Members.{In}
+use Rattle.tree_nodes.specs.Tree.{Parts}
+use Rattle.tree_places.specs.Places.{Place, names, places, sites}
+use Rattle.scope_rules.proofs.PlacesRise.{named_site, places_rise}
+use Rattle.name_rules.specs.GivenNames.{given_names, names_of_slots, new_name}
+use Rattle.name_rules.specs.Groups.{groups, members, members_of}
+use Rattle.name_rules.specs.Options.{Options}
+use Rattle.name_rules.specs.PrivateNumbers.{with_private}
+use Rattle.name_rules.specs.Slots.{slots, slots_of}
 use Rattle.one_scope.proofs.FlatFaults.{all_declared, only_redeclared}
 use Rattle.one_scope.proofs.FlatKept.{member, members_named}
 use Rattle.one_scope.proofs.FlatNames.{given_same, names_same, names_from, none_private}
@@ -11,20 +21,10 @@ use Rattle.one_scope.specs.Flat.{flat_name, flat_slot_names, slot_owners}
 use Rattle.one_scope.specs.Laws.{FlatFaults, FlatNames, FlatSlotNames}
 use Rattle.one_scope.specs.OneScope.{IsFlat, IsFlatTree}
 use Rattle.one_scope.specs.Open.{all_open}
-use Rattle.name_rules.proofs.Given.{named-site, places_rise}
-use Rattle.name_rules.proofs.Runs.{of-each}
-use Rattle.name_rules.specs.GivenNames.{given_names, names_of_slots, new_name}
-use Rattle.name_rules.specs.Groups.{groups, members, members_of}
-use Rattle.name_rules.specs.Options.{Options}
-use Rattle.name_rules.specs.PrivateNumbers.{with_private}
-use Rattle.name_rules.specs.Slots.{slots, slots_of}
-use Rattle.tree_nodes.specs.Tree.{Parts}
-use Rattle.tree_places.specs.Places.{Place, names, places, sites}
-use Rattle.scope_rules.proofs.Lists.{In}
 
 pub flat_places : (t : Parts) → IsFlatTree t → (p : Place) → In p (places t) → IsFlat p.site
 unfolding all_open
-flat_places t f p i = of-each IsFlat (sites t) p.site f.flat (named-site (sites t) (names t) p i)
+flat_places t f p i = of_each IsFlat (sites t) p.site f.flat (named_site (sites t) (names t) p i)
 
 pub flat_faults : FlatFaults
 unfolding all_open

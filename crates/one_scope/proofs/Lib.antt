@@ -1,8 +1,10 @@
+-- the walk
 pub mod WalkInner
 pub mod WalkSteps
 pub mod WalkPlaces
 pub mod WalkFlat
-pub mod FlatLists
+
+-- flat trees: the plain definitions say what the general ones do
 pub mod FlatSites
 pub mod FlatFaults
 pub mod FlatBindings
@@ -11,6 +13,8 @@ pub mod FlatOwners
 pub mod FlatSlots
 pub mod FlatNames
 pub mod FlatTrees
+
+-- the analysis, a pass at a time
 pub mod Texts
 pub mod Clashes
 pub mod Distinct

@@ -1,18 +1,19 @@
 -- The names that are given up, found by one pass.
 use Rattle.std.specs.Prelude.{◌≡◌, ◌≤◌, ◌<◌, ℕ, ◌+◌, Bool, true, false, not, List, [], ◌∷◌, ◌++◌, length, get_or, map, take, filter, Option, Some, None, is_some, bytes_eq, if◌then◌else◌}
 use Rattle.std.proofs.Common.{refl, sym, ap, ◌∙◌, arith}
-use Rattle.std.proofs.lemmas.List.{length-append, length-map, map-append, take_all}
+use Rattle.std.proofs.lemmas.List.{length-append, length-map, map-append, take_all, append-nil}
 use Rattle.std.proofs.lemmas.List.Elements.{filter-append}
-use Rattle.one_scope.proofs.Distinct.{AllApart, among_distinct, among_filter, distinct_apart, distinct_less, distinct_more, filter_less, slot_more, slot_some}
-use Rattle.one_scope.proofs.Texts.{put_none, seen_more}
-use Rattle.one_scope.specs.Entries.{Entry}
-use Rattle.one_scope.specs.Flat.{declared_names, flat_slot, keeps_all, slot_owners}
-use Rattle.name_rules.specs.Kept.{is_reserved}
-use Rattle.name_rules.specs.Options.{Options}
+use Rattle.list_laws.proofs.Filtered.{filter_most}
 use Rattle.tree_nodes.specs.Tree.{Text}
 use Rattle.scope_rules.specs.Bindings.{or_else}
 use Rattle.scope_rules.specs.Homes.{is_declaring}
 use Rattle.scope_rules.specs.PrivateNames.{distinct, is_among}
+use Rattle.name_rules.specs.Kept.{is_reserved}
+use Rattle.name_rules.specs.Options.{Options}
+use Rattle.one_scope.proofs.Distinct.{AllApart, among_distinct, among_filter, distinct_apart, distinct_less, distinct_more, slot_more, slot_some}
+use Rattle.one_scope.proofs.Texts.{put_none, seen_more}
+use Rattle.one_scope.specs.Entries.{Entry}
+use Rattle.one_scope.specs.Flat.{declared_names, flat_slot, keeps_all, slot_owners}
 
 -- the names that declaring places declare
 unfoldable pub declared : List Entry → List Text
@@ -30,14 +31,10 @@ declared_more es e b h = ap (map (λ f. f.name)) (filter-append (λ f. is_declar
     go true q = rw q refl
     go false q = rw q refl
 
-append_nothing : {X : Type 0} (xs : List X) → xs ++ [] ≡ xs
-append_nothing [] = refl
-append_nothing (x ∷ xs) = ap (λ ys. x ∷ ys) (append_nothing xs)
-
 -- a place that doesn't declare, and one that declares a reserved name, give none
 pub open_passed : (o : Options) (es : List Entry) (e : Entry) → is_declaring e.role ≡ false → open_names o (es ++ e ∷ []) ≡ open_names o es
 unfolding open_names
-open_passed o es e h = ap (λ xs. filter (λ x. not (is_reserved o x)) (distinct xs)) (declared_more es e false h ∙ append_nothing (declared es))
+open_passed o es e h = ap (λ xs. filter (λ x. not (is_reserved o x)) (distinct xs)) (declared_more es e false h ∙ append-nil (declared es))
 
 declared_one : (o : Options) (es : List Entry) (e : Entry) → is_declaring e.role ≡ true
     → open_names o (es ++ e ∷ []) ≡ open_names o es ++ filter (λ x. not (is_reserved o x)) (if is_among (declared es) e.name then [] else e.name ∷ [])
@@ -48,7 +45,7 @@ declared_one o es e h =
     ∙ filter-append (λ x. not (is_reserved o x)) (distinct (declared es)) (if is_among (declared es) e.name then [] else e.name ∷ [])
 
 pub open_reserved : (o : Options) (es : List Entry) (e : Entry) → is_declaring e.role ≡ true → is_reserved o e.name ≡ true → open_names o (es ++ e ∷ []) ≡ open_names o es
-open_reserved o es e h r = declared_one o es e h ∙ ap (λ zs. open_names o es ++ zs) (go (is_among (declared es) e.name)) ∙ append_nothing (open_names o es)
+open_reserved o es e h r = declared_one o es e h ∙ ap (λ zs. open_names o es ++ zs) (go (is_among (declared es) e.name)) ∙ append-nil (open_names o es)
   where
     go : (b : Bool) → filter (λ x. not (is_reserved o x)) (if b then [] else e.name ∷ []) ≡ []
     go true = refl
@@ -92,11 +89,11 @@ owners_few o es = go (keeps_all o es)
     names = map (λ e. e.name) (filter (λ e. is_declaring e.role) es)
 
     few : length names ≤ length es
-    few = let a : length names ≡ length (filter (λ e. is_declaring e.role) es) = length-map (filter (λ e. is_declaring e.role) es) (λ e. e.name) in let b = filter_less (λ e. is_declaring e.role) es in omega (arith, a, b)
+    few = let a : length names ≡ length (filter (λ e. is_declaring e.role) es) = length-map (filter (λ e. is_declaring e.role) es) (λ e. e.name) in let b = filter_most (λ e. is_declaring e.role) es in omega (arith, a, b)
 
     go : (b : Bool) → length {A = Text} (if b then [] else filter (λ x. not (is_reserved o x)) (distinct names)) ≤ length es
     go true = omega arith
-    go false = let a = filter_less (λ x. not (is_reserved o x)) (distinct names) in let b = distinct_less names in let c : length names ≤ length es = few in omega (arith, a, b, c)
+    go false = let a = filter_most (λ x. not (is_reserved o x)) (distinct names) in let b = distinct_less names in let c : length names ≤ length es = few in omega (arith, a, b, c)
 
 -- what the pass has found at its end
 pub owners_found : {X : Type 0} (o : Options) (view : X → Entry) (xs : List X) (i : ℕ) (keeps : Bool) → length xs ≤ i → keeps ≡ keeps_all o (map view xs) → keeps ≡ false → open_names o (map view (take i xs)) ≡ slot_owners o (map view xs)
@@ -142,7 +139,7 @@ module _ {X : Type 0} (o : Options) (view : X → Entry) (xs : List X) (i : ℕ)
     where
       go : (t : Option ℕ) → slot place.name ≡ t → or_else (slot x) (if bytes_eq place.name x then Some n else None) ≡ flat_slot (open_names o before ++ (if is_some (slot place.name) then [] else place.name ∷ [])) x
       go None u = rw u (ap (λ (t : Option ℕ). or_else t (if bytes_eq place.name x then Some n else None)) (slots x) ∙ ap (λ (m : ℕ). or_else (flat_slot (open_names o before) x) (if bytes_eq place.name x then Some m else None)) len ∙ sym (slot_more (open_names o before) place.name x))
-      go (Some k) u = rw u (sym (put_none slot place.name x n k u) ∙ slots x ∙ ap (λ owners. flat_slot owners x) (sym (append_nothing (open_names o before))))
+      go (Some k) u = rw u (sym (put_none slot place.name x n k u) ∙ slots x ∙ ap (λ owners. flat_slot owners x) (sym (append-nil (open_names o before))))
 
   pub turn_len : (declares reserved : Bool) → declares ≡ is_declaring (view (get_or xs i d)).role → declares ≡ true → reserved ≡ is_reserved o (view (get_or xs i d)).name → reserved ≡ false
       → (m : ℕ) → m ≡ n + (if is_some (slot (view (get_or xs i d)).name) then 0 else 1) → m ≡ length (open_names o (map view (take (i + 1) xs)))

@@ -1,27 +1,25 @@
 -- The names that must not be given, gathered in a guard.
-use Rattle.std.specs.Prelude.{◌≡◌, ◌≤◌, ◌<◌, ℕ, zero, suc, ◌+◌, Bool, true, false, not, ◌&&◌, ◌||◌, List, [], ◌∷◌, ◌++◌, length, get_or, map, take, Option, None, is_some, bytes_eq, if◌then◌else◌}
 use Rattle.std.specs.List.{list_any}
+use Rattle.std.specs.Prelude.{◌≡◌, ◌≤◌, ◌<◌, ℕ, zero, suc, ◌+◌, Bool, true, false, not, ◌&&◌, ◌||◌, List, [], ◌∷◌, ◌++◌, length, get_or, map, take, Option, None, is_some, bytes_eq, if◌then◌else◌}
 use Rattle.std.proofs.Common.{refl, sym, ap, ◌∙◌, arith, take_all}
+use Rattle.std.proofs.Math.Bool.{or-false}
 use Rattle.std.proofs.lemmas.List.{length-map}
 use Rattle.std.proofs.lemmas.List.Folds.{list_any-append}
+use Rattle.list_laws.proofs.Tests.{told}
+use Rattle.syntax_lex.specs.Keyword.{is_reserved_keyword}
+use Rattle.tree_nodes.specs.Tree.{Text}
+use Rattle.scope_rules.specs.Bindings.{same_name}
+use Rattle.scope_rules.specs.Evals.{name_eval}
+use Rattle.scope_rules.specs.PrivateNames.{is_among}
+use Rattle.name_rules.specs.Kept.{name_arguments}
+use Rattle.name_rules.specs.Options.{Options}
+use Rattle.oxc_mangler.specs.Guard.{HasAlso, is_never_given, is_refused}
 use Rattle.one_scope.proofs.Distinct.{slot_some}
 use Rattle.one_scope.proofs.Texts.{same_sym, seen_more}
 use Rattle.one_scope.specs.Entries.{Entry}
 use Rattle.one_scope.specs.Flat.{flat_slot, is_taken_flat}
 use Rattle.one_scope.specs.Open.{all_open}
 use Rattle.one_scope.specs.Steps.{keeps_name}
-use Rattle.oxc_mangler.specs.Guard.{HasAlso, is_never_given, is_refused}
-use Rattle.name_rules.specs.Kept.{name_arguments}
-use Rattle.name_rules.specs.Options.{Options}
-use Rattle.syntax_lex.specs.Keyword.{is_reserved_keyword}
-use Rattle.tree_nodes.specs.Tree.{Text}
-use Rattle.scope_rules.specs.Bindings.{same_name}
-use Rattle.scope_rules.specs.Evals.{name_eval}
-use Rattle.scope_rules.specs.PrivateNames.{is_among}
-
-nothing_or : (b : Bool) → (b || false) ≡ b
-nothing_or true = refl
-nothing_or false = refl
 
 or_assoc : (a b c : Bool) → ((a || b) || c) ≡ (a || (b || c))
 or_assoc true b c = refl
@@ -31,7 +29,7 @@ or_last : (a b c : Bool) → (a || (b || c)) ≡ (b || (c || a))
 or_last true true c = refl
 or_last true false true = refl
 or_last true false false = refl
-or_last false b c = sym (ap (λ d. b || d) (nothing_or c))
+or_last false b c = sym (ap (λ d. b || d) (or-false c))
 
 or_move : (a b c : Bool) → (a || (b || c)) ≡ ((b || a) || c)
 or_move true true c = refl
@@ -52,7 +50,7 @@ reserved_more reserved guard new all rest k name told e n also x =
 
 pub reserved_all : (reserved guard rest : List Text) → ((x : Text) → is_among reserved x ≡ (is_among guard x || is_among rest x)) → rest ≡ [] → (x : Text) → is_among guard x ≡ is_among reserved x
 unfolding all_open
-reserved_all reserved guard rest told e x = sym (told x ∙ ap (λ ns. is_among guard x || is_among ns x) e ∙ nothing_or (is_among guard x))
+reserved_all reserved guard rest told e x = sym (told x ∙ ap (λ ns. is_among guard x || is_among ns x) e ∙ or-false (is_among guard x))
 
 pub one_less : (b : Bool) (new old : ℕ) → new ≡ old + (if b then 0 else 1) → new ≤ old + 1
 one_less true new old e = omega (arith, e)
@@ -83,7 +81,7 @@ place_at owners view (x ∷ xs) zero d h = refl
 place_at owners view (x ∷ xs) (suc i) d h = place_at owners view xs i d (omega (arith, h))
 
 kept_more : (owners : List Text) (es : List Entry) (e : Entry) (x : Text) → list_any (keeps_name owners x) (es ++ e ∷ []) ≡ (list_any (keeps_name owners x) es || keeps_name owners x e)
-kept_more owners es e x = list_any-append (keeps_name owners x) es (e ∷ []) ∙ ap (λ b. list_any (keeps_name owners x) es || b) (nothing_or (keeps_name owners x e))
+kept_more owners es e x = list_any-append (keeps_name owners x) es (e ∷ []) ∙ ap (λ b. list_any (keeps_name owners x) es || b) (or-false (keeps_name owners x e))
 
 -- a turn of the pass, at the place after the first i. `reserved` are the names that were in the guard before
 module _ {X : Type 0} (view : X → Entry) (xs : List X) (i : ℕ) (d : X) (h : i < length xs) (owners reserved guard : List Text)
@@ -110,7 +108,7 @@ module _ {X : Type 0} (view : X → Entry) (xs : List X) (i : ℕ) (d : X) (h : 
   unfolding all_open keeps_name place before
   turn_given_up n x =
       told x
-      ∙ ap (λ b. is_among reserved x || b) (sym (nothing_or (list_any (keeps_name owners x) before))
+      ∙ ap (λ b. is_among reserved x || b) (sym (or-false (list_any (keeps_name owners x) before))
       ∙ ap (λ (b : Bool). list_any (keeps_name owners x) before || (not b && bytes_eq place.name x)) (sym n ∙ given_up)
       ∙ sym (ap (list_any (keeps_name owners x)) (seen_more view xs i d h) ∙ kept_more owners before place x))
 

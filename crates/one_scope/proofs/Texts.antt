@@ -4,8 +4,8 @@ use Rattle.std.proofs.Common.{refl, sym, ap, ◌∙◌}
 use Rattle.std.proofs.lemmas.Bool.{both_ways}
 use Rattle.std.proofs.lemmas.List.{map-append, take_more}
 use Rattle.std.proofs.lemmas.Slice.Eq.{bytes_eq-Decides}
+use Rattle.list_laws.proofs.Tests.{none_some, none_told, some_told}
 use Rattle.tree_nodes.specs.Tree.{Text}
-use Rattle.scope_rules.proofs.Lists.{none_some}
 use Rattle.scope_rules.specs.Bindings.{or_else}
 
 pub same_refl : (x : Text) → bytes_eq x x ≡ true
@@ -49,15 +49,6 @@ module _ {X : Type 0} (f : Text → Option X) (x y : Text) where
       go true e (Some u) p = refl
       go false e None p = refl
       go false e (Some u) p = refl
-
--- the same, where it is asked whether something is there
-none_told : {X : Type 0} (o : Option X) → is_some o ≡ false → o ≡ None
-none_told None h = refl
-none_told (Some x) h = absurd (both_ways _ h refl)
-
-some_told : {X : Type 0} (o : Option X) → is_some o ≡ true → (x : X) × (o ≡ Some x)
-some_told None h = absurd (both_ways _ refl h)
-some_told (Some x) h = (x, refl)
 
 pub put_absent : {X : Type 0} (f : Text → Option X) (x y : Text) (v : X) → is_some (f x) ≡ false → cond (bytes_eq x y) (Some v) (f y) ≡ or_else (f y) (if bytes_eq x y then Some v else None)
 put_absent f x y v h = put_new f x y v (none_told (f x) h)

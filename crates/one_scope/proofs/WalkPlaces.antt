@@ -2,9 +2,6 @@
 use Rattle.std.proofs.Common.{◌≡◌, ℕ, suc, List, [], ◌∷◌, ◌++◌, map, reverse, cond, if◌then◌else◌, refl, sym, ap, ap₂, subst, ◌∙◌}
 use Rattle.std.proofs.lemmas.Grind.{reverse_onto}
 use Rattle.std.proofs.lemmas.List.{append-nil, append_assoc, map-append}
-use Rattle.one_scope.specs.Entries.{Entry, entries, entry_of}
-use Rattle.one_scope.specs.Listing.{Listing, list_run, list_under, meet, nothing_listed}
-use Rattle.one_scope.specs.Open.{all_open}
 use Rattle.tree_nodes.specs.Along.{Along, all, each, first_column, other_columns}
 use Rattle.tree_nodes.specs.Roles.{role_at}
 use Rattle.tree_nodes.specs.Table.{Column, row, unlisted}
@@ -17,8 +14,12 @@ use Rattle.tree_nodes.specs.declared.table.Opens.{Opens}
 use Rattle.tree_nodes.specs.declared.table.Opens.TheVariants.{NameHere, PrivateNameHere}
 use Rattle.tree_nodes.specs.declared.table.Role.{Role}
 use Rattle.tree_nodes.specs.declared.table.Role.TheVariants.{Plain, Read}
+use Rattle.tree_places.proofs.MarkedSettings.{mark_keeps_role}
 use Rattle.tree_places.specs.Places.{Around, Seen, Setting, Site, at_field, before_all, enter, hide, is_place, met, named_by, names, nothing_yet, sites, unmarked, walk, with_mark}
 use Rattle.tree_places.specs.Scopes.{Scope}
+use Rattle.one_scope.specs.Entries.{Entry, entries, entry_of}
+use Rattle.one_scope.specs.Listing.{Listing, list_run, list_under, meet, nothing_listed}
+use Rattle.one_scope.specs.Open.{all_open}
 
 -- ---- a role doesn't look at what is hidden
 
@@ -33,33 +34,33 @@ abbrev AlongAgrees : Along → Role → Parts → Parts → Type 0
 AlongAgrees (each cs) own xs ys = EachAgrees cs own xs ys
 AlongAgrees (all c) own xs ys = Agree c own xs ys
 
-first-agrees : (columns : Along) (own : Role) (xs ys : Parts) → AlongAgrees columns own xs ys → Agree (first_column columns) own xs ys
+first_agrees : (columns : Along) (own : Role) (xs ys : Parts) → AlongAgrees columns own xs ys → Agree (first_column columns) own xs ys
 unfolding all_open
-first-agrees (each []) own xs ys g = refl
-first-agrees (each (c ∷ cs)) own xs ys g = g.0
-first-agrees (all c) own xs ys g = g
+first_agrees (each []) own xs ys g = refl
+first_agrees (each (c ∷ cs)) own xs ys g = g.0
+first_agrees (all c) own xs ys g = g
 
-others-agree : (columns : Along) (own : Role) (xs ys : Parts) → AlongAgrees columns own xs ys → AlongAgrees (other_columns columns) own xs ys
+others_agree : (columns : Along) (own : Role) (xs ys : Parts) → AlongAgrees columns own xs ys → AlongAgrees (other_columns columns) own xs ys
 unfolding all_open
-others-agree (each []) own xs ys g = tt
-others-agree (each (c ∷ cs)) own xs ys g = g.1
-others-agree (all c) own xs ys g = g
+others_agree (each []) own xs ys g = tt
+others_agree (each (c ∷ cs)) own xs ys g = g.1
+others_agree (all c) own xs ys g = g
 
-same-agrees : (cs : List Column) (own : Role) (xs ys : Parts) → xs ≡ ys → EachAgrees cs own xs ys
-same-agrees [] own xs ys e = tt
-same-agrees (c ∷ cs) own xs ys e = (ap (role_at c.mode own) e, same-agrees cs own xs ys e)
+same_agrees : (cs : List Column) (own : Role) (xs ys : Parts) → xs ≡ ys → EachAgrees cs own xs ys
+same_agrees [] own xs ys e = tt
+same_agrees (c ∷ cs) own xs ys e = (ap (role_at c.mode own) e, same_agrees cs own xs ys e)
 
-computed-unmarked : (xs : Parts) → flag_of (part (unmarked xs) 5) ≡ flag_of (part xs 5)
+computed_unmarked : (xs : Parts) → flag_of (part (unmarked xs) 5) ≡ flag_of (part xs 5)
 unfolding all_open
-computed-unmarked (atom kind (child k s e key (child k' s' e' value (atom method (atom (flag mark) more))))) = refl
-computed-unmarked _ = refl
+computed_unmarked (atom kind (child k s e key (child k' s' e' value (atom method (atom (flag mark) more))))) = refl
+computed_unmarked _ = refl
 
-hidden-agrees : (k : Kind) (own : Role) (fields : Parts) → EachAgrees (row k).columns own (hide k fields) fields
+hidden_agrees : (k : Kind) (own : Role) (fields : Parts) → EachAgrees (row k).columns own (hide k fields) fields
 unfolding all_open
-hidden-agrees Identifier own fields = (refl, tt)
-hidden-agrees PrivateIdentifier own fields = (refl, tt)
-hidden-agrees Property own fields = (refl, (ap (λ b. if b then Read else Plain) (computed-unmarked fields), (refl, (refl, (refl, (refl, tt))))))
-hidden-agrees k own fields = same-agrees (row k).columns own (hide k fields) fields refl
+hidden_agrees Identifier own fields = (refl, tt)
+hidden_agrees PrivateIdentifier own fields = (refl, tt)
+hidden_agrees Property own fields = (refl, (ap (λ b. if b then Read else Plain) (computed_unmarked fields), (refl, (refl, (refl, (refl, tt))))))
+hidden_agrees k own fields = same_agrees (row k).columns own (hide k fields) fields refl
 
 -- ---- numbers and roles
 
@@ -82,47 +83,42 @@ pushed es ss e s p q =
     map-append entry_spot es (e ∷ []) ∙ ap₂ (λ xs x. xs ++ x ∷ []) p q
     ∙ sym (map-append site_spot (reverse ss) (s ∷ [])) ∙ ap (map site_spot) (sym (reverse_onto ss s []))
 
-met-follows : (o : Opens) (b : ℕ) (e : Setting) (inner : Scope) (s : Seen) (x : Text) (l : Listing) → Follows l s → Follows (meet o e.role x l) (met o b e inner s)
+met_follows : (o : Opens) (b : ℕ) (e : Setting) (inner : Scope) (s : Seen) (x : Text) (l : Listing) → Follows l s → Follows (meet o e.role x l) (met o b e inner s)
 unfolding all_open
-met-follows NameHere b e inner s x l f = record {
+met_follows NameHere b e inner s x l f = record {
   nodes = ap suc f.nodes;
   spots = pushed l.entries s.sites _ _ f.spots (ap (λ n. (n, e.role)) f.nodes);
 }
-met-follows PrivateNameHere b e inner s x l f = record {
+met_follows PrivateNameHere b e inner s x l f = record {
   nodes = ap suc f.nodes;
   spots = pushed l.entries s.sites _ _ f.spots (ap (λ n. (n, e.role)) f.nodes);
 }
-met-follows _ b e inner s x l f = record { nodes = ap suc f.nodes; spots = f.spots }
+met_follows _ b e inner s x l f = record { nodes = ap suc f.nodes; spots = f.spots }
 
-mark-role : (k : Mark) (fields : Parts) (n : ℕ) (o : List ℕ) (e : Setting) → (with_mark k fields n o e).role ≡ e.role
+field_role : (c : Column) (a : Around) → (at_field c a).role ≡ role_at c.mode a.outside.role a.fields
 unfolding all_open
-mark-role Usual fields n o e = refl
-mark-role _ fields n o e = refl
+field_role c a = mark_keeps_role c.mark a.fields _ _ _
 
-field-role : (c : Column) (a : Around) → (at_field c a).role ≡ role_at c.mode a.outside.role a.fields
-unfolding all_open
-field-role c a = mark-role c.mark a.fields _ _ _
-
-walk-follows : (x : Parts) (columns : Along) (a : Around) (s : Seen) (within : Parts) (l : Listing)
+walk_follows : (x : Parts) (columns : Along) (a : Around) (s : Seen) (within : Parts) (l : Listing)
     → AlongAgrees columns a.outside.role a.fields within → Follows l s → Follows (list_run x columns a.outside.role within l) (walk x columns a s)
 unfolding all_open
-walk-follows done columns a s within l g f = f
-walk-follows (atom v more) columns a s within l g f = walk-follows more (other_columns columns) a s within l (others-agree columns _ _ _ g) f
-walk-follows (many items more) columns a s within l g f =
-    walk-follows more (other_columns columns) a (walk items (all (first_column columns)) a s) within (list_run items (all (first_column columns)) a.outside.role within l)
-    (others-agree columns _ _ _ g)
-    (walk-follows items (all (first_column columns)) a s within l (first-agrees columns _ _ _ g) f)
-walk-follows (child k b e fields more) columns a s within l g f =
+walk_follows done columns a s within l g f = f
+walk_follows (atom v more) columns a s within l g f = walk_follows more (other_columns columns) a s within l (others_agree columns _ _ _ g) f
+walk_follows (many items more) columns a s within l g f =
+    walk_follows more (other_columns columns) a (walk items (all (first_column columns)) a s) within (list_run items (all (first_column columns)) a.outside.role within l)
+    (others_agree columns _ _ _ g)
+    (walk_follows items (all (first_column columns)) a s within l (first_agrees columns _ _ _ g) f)
+walk_follows (child k b e fields more) columns a s within l g f =
     let here : Setting = at_field (first_column columns) a in
     let around : Around = enter (row k) (hide k fields) here s in
     let s₁ : Seen = met (row k).opens b here around.inside.scope s in
     let s₂ : Seen = walk fields (each (row k).columns) around s₁ in
     let l₂ : Role → Listing = λ r. list_run fields (each (row k).columns) r fields (meet (row k).opens r (text_of fields) l) in
     let inside : Follows (l₂ here.role) s₂ =
-    walk-follows fields (each (row k).columns) around s₁ fields (meet (row k).opens here.role (text_of fields) l) (hidden-agrees k here.role fields)
-    (met-follows (row k).opens b here around.inside.scope s (text_of fields) l f) in
-    let role_is : here.role ≡ role_at (first_column columns).mode a.outside.role within = field-role (first_column columns) a ∙ first-agrees columns _ _ _ g in
-    walk-follows more (other_columns columns) a s₂ within (l₂ (role_at (first_column columns).mode a.outside.role within)) (others-agree columns _ _ _ g)
+    walk_follows fields (each (row k).columns) around s₁ fields (meet (row k).opens here.role (text_of fields) l) (hidden_agrees k here.role fields)
+    (met_follows (row k).opens b here around.inside.scope s (text_of fields) l f) in
+    let role_is : here.role ≡ role_at (first_column columns).mode a.outside.role within = field_role (first_column columns) a ∙ first_agrees columns _ _ _ g in
+    walk_follows more (other_columns columns) a s₂ within (l₂ (role_at (first_column columns).mode a.outside.role within)) (others_agree columns _ _ _ g)
     (subst (λ (r : Role). Follows (l₂ r) s₂) role_is inside)
 
 -- ---- names
@@ -133,27 +129,27 @@ entry_name e = e.name
 after_push : (es : List Entry) (e : Entry) (ns : List Text) → map entry_name (es ++ e ∷ []) ++ ns ≡ map entry_name es ++ (e.name ∷ ns)
 after_push es e ns = ap (λ xs. xs ++ ns) (map-append entry_name es (e ∷ [])) ∙ append_assoc (map entry_name es) (e.name ∷ []) ns
 
-meet-names : (o : Opens) (r : Role) (x : Text) (l : Listing) (ns : List Text)
+meet_names : (o : Opens) (r : Role) (x : Text) (l : Listing) (ns : List Text)
     → map entry_name (meet o r x l).entries ++ ns ≡ map entry_name l.entries ++ (cond (is_place o) (x ∷ ns) ns)
 unfolding all_open
-meet-names NameHere r x l ns = after_push l.entries _ ns
-meet-names PrivateNameHere r x l ns = after_push l.entries _ ns
-meet-names _ r x l ns = refl
+meet_names NameHere r x l ns = after_push l.entries _ ns
+meet_names PrivateNameHere r x l ns = after_push l.entries _ ns
+meet_names _ r x l ns = refl
 
-run-names : (x : Parts) (columns : Along) (own : Role) (within : Parts) (l : Listing) → map entry_name (list_run x columns own within l).entries ≡ map entry_name l.entries ++ names x
+run_names : (x : Parts) (columns : Along) (own : Role) (within : Parts) (l : Listing) → map entry_name (list_run x columns own within l).entries ≡ map entry_name l.entries ++ names x
 unfolding all_open
-run-names done columns own within l = sym (append-nil _)
-run-names (atom v more) columns own within l = run-names more (other_columns columns) own within l
-run-names (many items more) columns own within l =
-    run-names more (other_columns columns) own within (list_run items (all (first_column columns)) own within l)
-    ∙ ap (λ xs. xs ++ names more) (run-names items (all (first_column columns)) own within l)
+run_names done columns own within l = sym (append-nil _)
+run_names (atom v more) columns own within l = run_names more (other_columns columns) own within l
+run_names (many items more) columns own within l =
+    run_names more (other_columns columns) own within (list_run items (all (first_column columns)) own within l)
+    ∙ ap (λ xs. xs ++ names more) (run_names items (all (first_column columns)) own within l)
     ∙ append_assoc (map entry_name l.entries) (names items) (names more)
-run-names (child k s e fields more) columns own within l =
+run_names (child k s e fields more) columns own within l =
     let r : Role = role_at (first_column columns).mode own within in
     let l₁ : Listing = meet (row k).opens r (text_of fields) l in
     let here : List Text = cond (is_place (row k).opens) (text_of fields ∷ names fields) (names fields) in
-    run-names more (other_columns columns) own within (list_run fields (each (row k).columns) r fields l₁)
-    ∙ ap (λ xs. xs ++ names more) (run-names fields (each (row k).columns) r fields l₁ ∙ meet-names (row k).opens r (text_of fields) l (names fields))
+    run_names more (other_columns columns) own within (list_run fields (each (row k).columns) r fields l₁)
+    ∙ ap (λ xs. xs ++ names more) (run_names fields (each (row k).columns) r fields l₁ ∙ meet_names (row k).opens r (text_of fields) l (names fields))
     ∙ append_assoc (map entry_name l.entries) here (names more)
 
 -- ---- both together
@@ -179,5 +175,5 @@ pub listed_entries : (t : Parts) → (list_under Plain t nothing_listed).entries
 unfolding all_open
 listed_entries t =
     from_parts (list_under Plain t nothing_listed).entries (sites t) (names t)
-    (walk-follows t (all unlisted) before_all nothing_yet done nothing_listed refl (record { nodes = refl; spots = refl })).spots
-    (run-names t (all unlisted) Plain done nothing_listed)
+    (walk_follows t (all unlisted) before_all nothing_yet done nothing_listed refl (record { nodes = refl; spots = refl })).spots
+    (run_names t (all unlisted) Plain done nothing_listed)

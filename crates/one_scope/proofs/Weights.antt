@@ -1,20 +1,21 @@
 -- How often the slots are referred to, counted by one pass.
-use Rattle.std.specs.Prelude.{◌≡◌, ◌≤◌, ◌<◌, ℕ, zero, suc, ◌+◌, Bool, true, false, cond, ◌&&◌, List, [], ◌∷◌, ◌++◌, length, get_or, map, take, filter, Option, Some, None, bytes_eq, slice_index, if◌then◌else◌, IfSome, replicate}
 use Rattle.std.specs.List.{position_from}
+use Rattle.std.specs.Prelude.{◌≡◌, ◌≤◌, ◌<◌, ℕ, zero, suc, ◌+◌, Bool, true, false, cond, ◌&&◌, List, [], ◌∷◌, ◌++◌, length, get_or, map, take, filter, Option, Some, None, bytes_eq, slice_index, if◌then◌else◌, IfSome, replicate}
 use Rattle.std.proofs.Common.{refl, sym, ap, ◌∙◌, arith, subst}
 use Rattle.std.proofs.lemmas.List.{length-append, length-map, map-append}
 use Rattle.std.proofs.lemmas.List.Elements.{filter-append}
-use Rattle.one_scope.proofs.Distinct.{AllApart, filter_less}
+use Rattle.list_laws.proofs.AllOf.{AllOf}
+use Rattle.list_laws.proofs.Filtered.{filter_most}
+use Rattle.list_laws.proofs.Tests.{none_some, some_one}
+use Rattle.tree_nodes.specs.Tree.{Text}
+use Rattle.scope_rules.specs.Bindings.{same_name}
+use Rattle.scope_rules.specs.Homes.{is_reference}
+use Rattle.one_scope.proofs.Distinct.{AllApart}
 use Rattle.one_scope.proofs.Texts.{same_is, same_sym, seen_more}
 use Rattle.one_scope.specs.Entries.{Entry}
 use Rattle.one_scope.specs.Flat.{flat_slot, flat_weight}
 use Rattle.one_scope.specs.Open.{all_open}
 use Rattle.one_scope.specs.Steps.{one_more_at}
-use Rattle.tree_nodes.specs.Tree.{Text}
-use Rattle.tree_places.proofs.Runs.{AllOf}
-use Rattle.scope_rules.proofs.Lists.{none_some, some_one}
-use Rattle.scope_rules.specs.Bindings.{same_name}
-use Rattle.scope_rules.specs.Homes.{is_reference}
 
 -- ---- with one place more
 
@@ -103,7 +104,7 @@ weights_more es e (x ∷ xs) apart h = go (bytes_eq x e.name) refl (weights_more
 
 pub weight_less : (es : List Entry) (x : Text) → flat_weight es x ≤ length es
 unfolding all_open
-weight_less es x = filter_less (λ e. is_reference e.role && bytes_eq e.name x) es
+weight_less es x = filter_most (λ e. is_reference e.role && bytes_eq e.name x) es
 
 pub index_less : (es : List Entry) (owners : List Text) (k : ℕ) → slice_index (map (flat_weight es) owners) k ≤ length es
 index_less es [] k = omega arith

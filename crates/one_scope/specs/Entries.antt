@@ -1,4 +1,4 @@
--- The places of a tree whose only scope is the Program, without what is the same at all of them.
+-- The places of a tree, each with its node, its role and its name alone.
 use Rattle.std.specs.Prelude.{ℕ, List, map}
 use Rattle.tree_nodes.specs.Tree.{Parts, Text}
 use Rattle.tree_nodes.specs.declared.table.Role.{Role}

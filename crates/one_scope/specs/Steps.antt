@@ -1,4 +1,4 @@
--- What the analysis keeps in maps under names, and a step of it (own).
+-- What the analysis keeps in maps under names, and a step of it.
 use Rattle.std.specs.Prelude.{◌≡◌, ◌<◌, ℕ, ◌+◌, not, get_or, IfSome, slice_index, slice_set, Bool, true, ◌&&◌, List, [], ◌∷◌, Option, Some, None, bytes_eq, if◌then◌else◌}
 use Rattle.std.specs.Borrow.{Bor}
 use Rattle.std.specs.HashMap.{HashMap, get_by}
@@ -45,15 +45,7 @@ AreSameNames xs ys = (x : Text) → is_among xs x ≡ is_among ys x
 unfoldable pub keeps_name : List Text → Text → Entry → Bool
 keeps_name owners x e = not (is_among owners e.name) && same_name e.name x
 
--- ---- names that are chosen: by number among those that are given, or none
-
-unfoldable pub chosen_name : List Text → Option ℕ → Text → Text
-chosen_name names None x = x
-chosen_name names (Some k) x = get_or names k []
-
-unfoldable pub chosen_names : List Text → List (Option ℕ) → List Text → List Text
-chosen_names names (c ∷ cs) (x ∷ xs) = chosen_name names c x ∷ chosen_names names cs xs
-chosen_names names _ _ = []
+-- ---- choices
 
 -- each number is that of a name
 abbrev pub AreWithin : List (Option ℕ) → ℕ → Type 0

@@ -1,4 +1,4 @@
-//! The places of a tree whose only scope is the Program.
+//! A place of a tree, as its analysis takes it.
 
 use tree_nodes::Role;
 

@@ -1,6 +1,6 @@
 //! Each public call on entries with ample memory, on entries that are written out.
 
-use crate::{Entry, MangleOptions, has_fault, keeps_all, new_names, slots_of};
+use crate::{Entry, MangleOptions, has_fault, keeps_all, new_names, slots_of_places};
 use std::alloc::{AllocError, Global};
 use std::test::Fail;
 use tree_nodes::{Declared, Role};
@@ -79,7 +79,7 @@ fn slots_go_by_first_declaration(rt: HostRuntime) -> Result<(), Fail> {
         entry(Role::Read, "second"),
         entry(Role::Read, "free"),
     ];
-    let slots = slots_of(rt.alloc(), &options, &entries)?;
+    let slots = slots_of_places(rt.alloc(), &options, &entries)?;
     let places = [Some(1), Some(0), None, Some(1), Some(1), Some(1), None];
     assert!(rt; slots.places.as_slice() == places.as_slice(), "places");
     assert!(rt; slots.weights.as_slice() == [0, 2].as_slice(), "weights");

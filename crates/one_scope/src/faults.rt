@@ -24,7 +24,7 @@ pub fn has_fault(alloc: Global, entries: &[Entry<'_>]) -> Result<bool, AllocErro
     Ok(false)
 }
 
-// Whether a place may declare the name beside those that do so already.
+// Whether a place may declare the name beside those that do so already. Where none does, the name is put in.
 fn declare<'t>(
     declared: &mut HashMap<&'t str, bool>,
     name: &'t str,

@@ -18,7 +18,7 @@ pub use flat_laws::{flat_faults, flat_names};
 pub use naming::{NewNames, new_names};
 pub use one_scope::is_one_scope;
 pub use options::MangleOptions;
-pub use slots::{Slots, keeps_all, slots_of};
+pub use slots::{Slots, keeps_all, slots_of_places};
 pub use walk::list_places;
 pub use walk_laws::one_scope_is_flat;
 

@@ -3,13 +3,14 @@
 ghost use Rattle.std.specs.Prelude.{◌≡◌, ◌+◌, ◌^◌, ◌≤◌, IfOk, length, map, string_bytes};
 ghost use Rattle.one_scope.specs.EntryViews.{entry_view};
 ghost use Rattle.one_scope.specs.Flat.{flat_new_names, flat_slot_names, flat_slots, is_taken_flat, slot_owners};
-ghost use Rattle.one_scope.specs.Steps.{AreWithin, chosen_names};
+ghost use Rattle.one_scope.specs.Steps.{AreWithin};
 ghost use Rattle.oxc_mangler.specs.Guard.{is_refused};
 ghost use Rattle.tree_nodes.specs.Tree.{Text};
+ghost use Rattle.tree_places.specs.Chosen.{chosen};
 
 use crate::entry::Entry;
 use crate::options::MangleOptions;
-use crate::slots::slots_of;
+use crate::slots::slots_of_places;
 use oxc_mangler::{Guard, free_names, slot_names};
 use std::alloc::{AllocError, Global};
 
@@ -31,9 +32,9 @@ pub fn new_names(
     ensures choices { IfOk result (λ n. n.choices.items ≡ flat_slots options.now (map entry_view entries.now)) }
     ensures names { IfOk result (λ n. map string_bytes n.names.items ≡ flat_slot_names options.now (map entry_view entries.now)) }
     ensures within { IfOk result (λ n. AreWithin n.choices.items (length n.names.items)) }
-    ensures chosen { IfOk result (λ n. flat_new_names options.now (map entry_view entries.now) ≡ chosen_names (map string_bytes n.names.items) n.choices.items (map (λ e. e.name.now) entries.now)) }
+    ensures chosen { IfOk result (λ n. flat_new_names options.now (map entry_view entries.now) ≡ chosen (map string_bytes n.names.items) n.choices.items (map (λ e. e.name.now) entries.now)) }
 {
-    let slots = slots_of(alloc, options, entries)?;
+    let slots = slots_of_places(alloc, options, entries)?;
     let guard = taken_names(options, entries, slots.places.as_slice())?;
     let weights = slots.weights.as_slice();
     let free = free_names(alloc, &guard, options.readable(), weights.len())?;

@@ -22,7 +22,7 @@ pub struct Slots {
 }
 
 /// The slots of these places, of which there are fewer than 2^32. Err is want of memory.
-pub fn slots_of(
+pub fn slots_of_places(
     alloc: Global,
     options: &MangleOptions,
     entries: &[Entry<'_>],

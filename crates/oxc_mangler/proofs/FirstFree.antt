@@ -1,12 +1,11 @@
 -- The first names that a guard doesn't refuse, as they are found one after another.
 use Rattle.std.specs.Prelude.{◌≡◌, ◌≤◌, ◌<◌, ℕ, zero, suc, ◌+◌, ◌-◌, ◌/◌, ◌%◌, ◌^◌, Bool, true, false, nat_lt, List, [], ◌∷◌, ◌++◌, length, if◌then◌else◌, codes, decimal}
 use Rattle.std.proofs.Common.{refl, sym, ap, ◌∙◌, subst, arith}
-use Rattle.std.proofs.lemmas.Bool.{both_ways}
 use Rattle.std.proofs.lemmas.Fmt.{PrependsLastDigit, decimal_from_prepends, length-decimal-le_succ}
 use Rattle.std.proofs.lemmas.List.{append_assoc, append-nil, length-append}
 use Rattle.syntax_lex.specs.Keyword.{reserved_keywords}
 use Rattle.oxc_mangler.proofs.NextNames.{how_many, is_listed}
-use Rattle.name_rules.proofs.Untaken.{candidate_one, enough}
+use Rattle.name_rules.proofs.FirstUntaken.{candidate_one, enough_untaken, first_untaken_same}
 use Rattle.oxc_mangler.specs.FirstFree.{AreFirstFree, AreFreeWhereTaken}
 use Rattle.name_rules.specs.FreeNames.{first_untaken, is_taken}
 use Rattle.oxc_mangler.specs.Guard.{is_refused}
@@ -31,21 +30,6 @@ module _ (name : ℕ → Text) where
   when_untaken : (taken : Text → Bool) (fuel n k : ℕ) → taken (name k) ≡ false → first_untaken name taken (suc fuel) (suc n) k ≡ name k ∷ first_untaken name taken fuel n (suc k)
   unfolding all_open
   when_untaken taken fuel n k h = ap (λ (b : Bool). elim b as (λ c. List Text) [ true ↦ first_untaken name taken fuel (suc n) (suc k) | false ↦ name k ∷ first_untaken name taken fuel n (suc k) ]) h
-
-  -- two tests that answer alike find the same
-  alike : (p q : Text → Bool) → ((x : Text) → p x ≡ q x) → (fuel n k : ℕ) → first_untaken name p fuel n k ≡ first_untaken name q fuel n k
-  unfolding all_open
-  alike p q h zero n k = refl
-  alike p q h (suc fuel) zero k = refl
-  alike p q h (suc fuel) (suc n) k = go (p (name k)) (q (name k)) (h (name k)) (alike p q h fuel (suc n) (suc k)) (alike p q h fuel n (suc k))
-    where
-      go : (a b : Bool) → a ≡ b → first_untaken name p fuel (suc n) (suc k) ≡ first_untaken name q fuel (suc n) (suc k) → first_untaken name p fuel n (suc k) ≡ first_untaken name q fuel n (suc k)
-          → elim a as (λ c. List Text) [ true ↦ first_untaken name p fuel (suc n) (suc k) | false ↦ name k ∷ first_untaken name p fuel n (suc k) ]
-          ≡ elim b as (λ c. List Text) [ true ↦ first_untaken name q fuel (suc n) (suc k) | false ↦ name k ∷ first_untaken name q fuel n (suc k) ]
-      go true true e ih jh = ih
-      go false false e ih jh = ap (λ (xs : List Text). name k ∷ xs) jh
-      go true false e ih jh = absurd (both_ways true e refl)
-      go false true e ih jh = absurd (both_ways false refl e)
 
 -- ---- one candidate after another
 
@@ -91,7 +75,7 @@ module _ (inserted : List Text) (readable : Bool) (n : ℕ) where
       go false e =
           let far : n + 48 + length inserted ≤ number = grind (arith, e) in
           let a : length (first_untaken (candidate readable) (is_refused inserted) number n 0) ≡ n =
-          enough (candidate readable) (candidate_one readable) (is_refused inserted) listed (is_listed inserted) number n 0 (omega (arith, far, as_many)) in
+          enough_untaken (candidate readable) (candidate_one readable) (is_refused inserted) listed (is_listed inserted) number n 0 (omega (arith, far, as_many)) in
           let b : first_untaken (candidate readable) (is_refused inserted) number n 0 ≡ names ++ first_untaken (candidate readable) (is_refused inserted) 0 (n - length names) number =
           found.so_far 0 number (n - length names) (omega arith) (omega (arith, h)) in
           let c : length (names ++ first_untaken (candidate readable) (is_refused inserted) 0 (n - length names) number) ≡ length names = with_no_fuel names (n - length names) number in
@@ -136,10 +120,10 @@ module _ (inserted : List Text) (readable : Bool) (n : ℕ) where
       go false t d = given names after number found h t (d ∙ ap (λ (b : Bool). names ++ (if b then [] else candidate readable number ∷ [])) t)
 
   pub all_found : (names : List Text) (number : ℕ) → Found names number → n ≤ length names → AreFirstFree inserted readable n names
-  all_found names number found h fuel enough =
+  all_found names number found h fuel enough_untaken =
       let a : number ≤ n + 48 + length inserted = found.bounded in
       let b : length names ≤ n = found.most in
-      sym (found.so_far (fuel - number) fuel 0 (omega (arith, a, enough)) (omega (arith, h, b))
+      sym (found.so_far (fuel - number) fuel 0 (omega (arith, a, enough_untaken)) (omega (arith, h, b))
       ∙ ap (λ (xs : List Text). names ++ xs) (none_wanted (candidate readable) (is_refused inserted) (fuel - number) number)
       ∙ append-nil names)
 
@@ -149,7 +133,7 @@ module _ (inserted : List Text) (readable : Bool) (n : ℕ) where
   free_where_taken names first o ms r l same =
       first (n + 48 + length o.reserved + length ms) (omega (arith, l))
       ∙ ap (λ (b : Bool). first_untaken (candidate b) (is_refused inserted) (n + 48 + length o.reserved + length ms) n 0) (sym r)
-      ∙ alike (candidate o.readable) (is_refused inserted) (is_taken o ms) same (n + 48 + length o.reserved + length ms) n 0
+      ∙ first_untaken_same (candidate o.readable) (is_refused inserted) (is_taken o ms) same (n + 48 + length o.reserved + length ms) n 0
 
 -- ---- readable names
 

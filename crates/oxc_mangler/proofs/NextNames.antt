@@ -3,21 +3,22 @@ use Rattle.std.specs.Prelude.{◌≡◌, ◌⊎◌, ◌≤◌, ◌<◌, ℕ, zer
 use Rattle.std.proofs.Common.{refl, sym, ap, subst, arith, inl, inr}
 use Rattle.std.proofs.lemmas.Bool.{or_cases}
 use Rattle.std.proofs.lemmas.List.{length-append}
+use Rattle.list_laws.proofs.AllOf.{AllOf}
+use Rattle.list_laws.proofs.AnyOf.{any_some}
+use Rattle.list_laws.proofs.Counting.{no_more}
+use Rattle.list_laws.proofs.Members.{In, in_left, in_right}
+use Rattle.list_laws.proofs.PairsOf.{PairsOf}
 use Rattle.syntax_lex.specs.Keyword.{is_reserved_keyword, reserved_keywords}
-use Rattle.name_rules.proofs.Counting.{no_more}
-use Rattle.name_rules.proofs.Given.{in-left, in-right, tells}
-use Rattle.name_rules.proofs.Numbered.{short_is_one_to_one}
-use Rattle.name_rules.proofs.Passing.{among-in}
-use Rattle.oxc_mangler.specs.Guard.{is_never_given, is_refused}
-use Rattle.name_rules.specs.Kept.{name_arguments}
-use Rattle.name_rules.specs.Open.{all_open}
-use Rattle.name_rules.specs.ShortNames.{short}
 use Rattle.tree_nodes.specs.Tree.{Text}
-use Rattle.tree_places.proofs.Runs.{AllOf, PairsOf}
-use Rattle.scope_rules.proofs.Lists.{In, any-some}
+use Rattle.scope_rules.proofs.SameNames.{same_name_tells, among_in}
 use Rattle.scope_rules.specs.Bindings.{same_name}
 use Rattle.scope_rules.specs.Evals.{name_eval}
 use Rattle.scope_rules.specs.PrivateNames.{is_among}
+use Rattle.name_rules.proofs.ShortNumbers.{short_is_one_to_one}
+use Rattle.name_rules.specs.Kept.{name_arguments}
+use Rattle.name_rules.specs.Open.{all_open}
+use Rattle.name_rules.specs.ShortNames.{short}
+use Rattle.oxc_mangler.specs.Guard.{is_never_given, is_refused}
 
 -- ---- names with numbers that follow one another
 
@@ -30,15 +31,15 @@ unfolding names_from
 as_many zero k = refl
 as_many (suc count) k = ap suc (as_many count (suc k))
 
-other : (count k j : ℕ) → j < k → AllOf (λ y. short j ≡ y → ⊥) (names_from count k)
+short_differs_from_later : (count k j : ℕ) → j < k → AllOf (λ y. short j ≡ y → ⊥) (names_from count k)
 unfolding names_from
-other zero k j h = tt
-other (suc count) k j h = ((λ e. let q : j ≡ k = short_is_one_to_one j k e in omega (arith, h, q)), other count (suc k) j (omega (arith, h)))
+short_differs_from_later zero k j h = tt
+short_differs_from_later (suc count) k j h = ((λ e. let q : j ≡ k = short_is_one_to_one j k e in omega (arith, h, q)), short_differs_from_later count (suc k) j (omega (arith, h)))
 
 all_different : (count k : ℕ) → PairsOf (λ x y. x ≡ y → ⊥) (names_from count k)
 unfolding names_from
 all_different zero k = tt
-all_different (suc count) k = (other count (suc k) k (omega arith), all_different count (suc k))
+all_different (suc count) k = (short_differs_from_later count (suc k) k (omega arith), all_different count (suc k))
 
 each_passes : (test : Text → Bool) (count k : ℕ) → ((j : ℕ) → k ≤ j → j < k + count → test (short j) ≡ true) → (x : Text) → In x (names_from count k) → test x ≡ true
 unfolding names_from
@@ -57,30 +58,30 @@ module _ (inserted : List Text) where
   is_listed x h = last (or_cases _ _ h)
     where
       past : In x (name_eval ∷ name_arguments ∷ inserted) → In x (reserved_keywords ++ (name_eval ∷ name_arguments ∷ inserted))
-      past i = in-right reserved_keywords (name_eval ∷ name_arguments ∷ inserted) x i
+      past i = in_right reserved_keywords (name_eval ∷ name_arguments ∷ inserted) x i
 
       first : (is_reserved_keyword x ≡ true) ⊎ (same_name x name_eval ≡ true) → In x (reserved_keywords ++ (name_eval ∷ name_arguments ∷ inserted))
       first (inl k) =
-          let w : (y : Text) × In y reserved_keywords × (same_name y x ≡ true) = any-some (λ y. same_name y x) reserved_keywords k in
-          in-left reserved_keywords (name_eval ∷ name_arguments ∷ inserted) x (subst (λ (y : Text). In y reserved_keywords) ((tells w.0 x).0 w.2) w.1)
-      first (inr k) = past (inl (sym ((tells x name_eval).0 k)))
+          let w : (y : Text) × In y reserved_keywords × (same_name y x ≡ true) = any_some (λ y. same_name y x) reserved_keywords k in
+          in_left reserved_keywords (name_eval ∷ name_arguments ∷ inserted) x (subst (λ (y : Text). In y reserved_keywords) ((same_name_tells w.0 x).0 w.2) w.1)
+      first (inr k) = past (inl (sym ((same_name_tells x name_eval).0 k)))
 
       next : ((is_reserved_keyword x || same_name x name_eval) ≡ true) ⊎ (same_name x name_arguments ≡ true) → In x (reserved_keywords ++ (name_eval ∷ name_arguments ∷ inserted))
       next (inl e) = first (or_cases _ _ e)
-      next (inr e) = past (inr (inl (sym ((tells x name_arguments).0 e))))
+      next (inr e) = past (inr (inl (sym ((same_name_tells x name_arguments).0 e))))
 
       last : ((is_reserved_keyword x || same_name x name_eval || same_name x name_arguments) ≡ true) ⊎ (is_among inserted x ≡ true) → In x (reserved_keywords ++ (name_eval ∷ name_arguments ∷ inserted))
       last (inl e) = next (or_cases _ _ e)
-      last (inr e) = past (inr (inr (among-in inserted x e)))
+      last (inr e) = past (inr (inr (among_in inserted x e)))
 
   pub how_many : length reserved_keywords ≡ 46
   unfolding all_open
   how_many = refl
 
-  few : (n count : ℕ) → ((j : ℕ) → n ≤ j → j < n + count → is_refused inserted (short j) ≡ true) → count ≤ 48 + length inserted
-  few n count h =
+  refused_are_few : (n count : ℕ) → ((j : ℕ) → n ≤ j → j < n + count → is_refused inserted (short j) ≡ true) → count ≤ 48 + length inserted
+  refused_are_few n count h =
       let a : length (names_from count n) ≤ length (reserved_keywords ++ (name_eval ∷ name_arguments ∷ inserted)) =
-      no_more same_name tells (names_from count n) (reserved_keywords ++ (name_eval ∷ name_arguments ∷ inserted)) (all_different count n) (λ x i. is_listed x (each_passes (is_refused inserted) count n h x i)) in
+      no_more same_name same_name_tells (names_from count n) (reserved_keywords ++ (name_eval ∷ name_arguments ∷ inserted)) (all_different count n) (λ x i. is_listed x (each_passes (is_refused inserted) count n h x i)) in
       let b : length (reserved_keywords ++ (name_eval ∷ name_arguments ∷ inserted)) ≡ length reserved_keywords + length (name_eval ∷ name_arguments ∷ inserted) = length-append reserved_keywords (name_eval ∷ name_arguments ∷ inserted) in
       let d : length (name_eval ∷ name_arguments ∷ inserted) ≡ suc (suc (length inserted)) = refl in
       let c : length (names_from count n) ≡ count = as_many count n in
@@ -105,5 +106,5 @@ module _ (inserted : List Text) where
 
   pub not_far : (n number : ℕ) → n ≤ number → AreRefused n number → is_refused inserted (short number) ≡ true → number < n + 48 + length inserted
   not_far n number a h r =
-      let c : suc number - n ≤ 48 + length inserted = few n (suc number - n) (λ j p q. one_more n number h r j p (omega (arith, a, q))) in
+      let c : suc number - n ≤ 48 + length inserted = refused_are_few n (suc number - n) (λ j p q. one_more n number h r j p (omega (arith, a, q))) in
       omega (arith, a, c)

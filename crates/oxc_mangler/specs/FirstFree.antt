@@ -1,4 +1,4 @@
--- What is asked of the first names that a guard doesn't refuse (own).
+-- What is asked of the first names that a guard doesn't refuse.
 use Rattle.std.specs.Prelude.{◌≡◌, ◌≤◌, ℕ, ◌+◌, Bool, List, length}
 use Rattle.name_rules.specs.FreeNames.{first_untaken, is_taken}
 use Rattle.name_rules.specs.GivenNames.{free_names}

@@ -1,4 +1,4 @@
--- Which names a guard refuses (own; ECMA-262, Keywords and Reserved Words).
+-- Which names a guard refuses (ECMA-262, Keywords and Reserved Words).
 use Rattle.std.specs.Prelude.{◌≡◌, Bool, ◌||◌, List}
 use Rattle.name_rules.specs.Kept.{name_arguments}
 use Rattle.syntax_lex.specs.Keyword.{is_reserved_keyword}

@@ -1,4 +1,4 @@
--- The next name that may be given (own).
+-- The next name that may be given.
 use Rattle.std.specs.Prelude.{◌≡◌, ◌≤◌, ◌<◌, ℕ, true, false, List}
 use Rattle.oxc_mangler.specs.Guard.{is_refused}
 use Rattle.name_rules.specs.ShortNames.{short}

@@ -33,7 +33,7 @@ pub fn free_names(
     Ok(names)
 }
 
-/// Appends `name` where `guard` doesn't refuse it.
+// Appends `name` where `guard` doesn't refuse it.
 fn push_unless_refused(
     names: &mut Vec<String>,
     name: String,
@@ -47,7 +47,7 @@ fn push_unless_refused(
     Ok(())
 }
 
-/// The candidate with the number `n`, from 0.
+// The candidate with the number `n`, from 0.
 #[tactic(auto, unfolding(name_rules::specs::ShortNames::candidate))]
 fn candidate(alloc: Global, readable: bool, n: u32) -> Result<String, AllocError>
     ensures { IfOk result (λ name. string_bytes name ≡ candidate readable n) }
@@ -59,7 +59,7 @@ fn candidate(alloc: Global, readable: bool, n: u32) -> Result<String, AllocError
     }
 }
 
-/// `slot_` and `n`.
+// `slot_` and `n`.
 #[tactic(auto, using(crate::proofs::FirstFree::readable_told))]
 fn readable_name(alloc: Global, n: u32) -> Result<String, AllocError>
     ensures { IfOk result (λ name. string_bytes name ≡ readable_name n) }

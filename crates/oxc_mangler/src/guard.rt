@@ -56,7 +56,7 @@ impl Guard {
     }
 }
 
-/// Whether the name is a reserved keyword, `eval` or `arguments`.
+// Whether the name is a reserved keyword, `eval` or `arguments`.
 #[tactic(auto, unfolding(name_rules::specs::Open::all_open, crate::specs::Guard::is_never_given))]
 fn is_never_given(name: &str) -> bool
     ensures { result ≡ is_never_given name.now }

@@ -3,15 +3,15 @@
 #![tactic(auto)]
 
 mod first_free;
-mod given_names;
 mod guard;
+mod names_by_weight;
 mod next_name;
 mod short_names;
 #[cfg(test)]
 mod tests;
 
 pub use first_free::free_names;
-pub use given_names::slot_names;
 pub use guard::Guard;
+pub use names_by_weight::slot_names;
 pub use next_name::free_name_from;
 pub use short_names::base54;

@@ -5,7 +5,7 @@ ghost use Rattle.name_rules.specs.ShortNames.{characters, short};
 
 use oxc_data_structures::inline_string::InlineString;
 
-/// The characters of names; a name begins with one of the first 54.
+// The characters of names; a name begins with one of the first 54.
 const BASE54_CHARS: [u8; 64] = *b"etnriaoscludfpmhg_vybxSCwTEDOkAjMNPFILRzBVHUWGKqJYXZQ$1024368579";
 
 /// The name with the number `n`, from 0: the shortest ones come first. It is a name by its characters alone,
@@ -24,7 +24,7 @@ pub fn base54(n: u32) -> InlineString<7, u8>
     name
 }
 
-/// The character for a digit of a name's number.
+// The character for a digit of a name's number.
 fn character(digit: u32) -> u8
     requires { digit < 64 }
     ensures is { result ≡ get_or characters digit 0 }

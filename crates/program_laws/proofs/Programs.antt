@@ -7,7 +7,7 @@ use Rattle.tree_core.specs.Values.{value_of}
 use Rattle.tree_nodes.specs.Tree.{alone}
 use Rattle.tree_places.proofs.TreesRooted as rooted
 use Rattle.scope_rules.proofs.FunctionNames as function_names
-use Rattle.scope_rules.proofs.Separate as separate
+use Rattle.scope_rules.proofs.NamesSeparate as separate
 
 pub programs_name_functions_once : ProgramsNameFunctionsOnce
 programs_name_functions_once t p = tree_once t (tree_fits (value_of t) t p.0) (shape_read (value_of t) t p.0).1

@@ -1,28 +1,30 @@
 -- No two function-names have one home, where each function expression has one name at most: its scope is new when it is met.
-use Rattle.std.specs.Prelude.{◌≡◌, ◌⊎◌, ℕ, zero, suc, ◌<◌, Bool, true, false, cond, not, ◌&&◌, ◌||◌, List, [], ◌∷◌, length, reverse}
 use Rattle.std.specs.List.{list_all, list_any}
+use Rattle.std.specs.Prelude.{◌≡◌, ◌⊎◌, ℕ, ◌<◌, Bool, true, false, cond, not, ◌&&◌, ◌||◌, List, [], ◌∷◌, length, reverse}
 use Rattle.std.proofs.Common.{refl, sym, ap, ◌∙◌, subst, arith, inl, inr}
-use Rattle.std.proofs.lemmas.Bool.{and_parts, and_from, both_ways}
+use Rattle.std.proofs.lemmas.Bool.{and_parts, and_from, both_ways, not-true}
 use Rattle.std.proofs.lemmas.Grind.{reverse_onto}
+use Rattle.list_laws.proofs.AllOf.{AllOf, AllOf_weaken, AllOf_reverse}
+use Rattle.list_laws.proofs.AnyOf.{any_some}
+use Rattle.list_laws.proofs.Members.{In}
+use Rattle.list_laws.proofs.PairsOf.{PairsOf, PairsOf_push}
+use Rattle.list_laws.proofs.Tests.{tested}
 use Rattle.tree_nodes.specs.Along.{Along, all, each, first_column, other_columns}
-use Rattle.tree_nodes.specs.Roles.{declared_by, role_at, written_by}
 use Rattle.tree_nodes.specs.Table.{Column, row, unlisted}
-use Rattle.tree_nodes.specs.Tree.{Parts, atom, child, done, flag_of, is_empty, many, part, word_of}
+use Rattle.tree_nodes.specs.Tree.{Parts, atom, child, done, many}
 use Rattle.tree_nodes.specs.declared.kind.Kind.{Kind}
 use Rattle.tree_nodes.specs.declared.kind.Kind.TheVariants.{Program, Hashbang, ExpressionStatement, BlockStatement, EmptyStatement, DebuggerStatement, ThisExpression, Super, ReturnStatement, ThrowStatement, LabeledStatement, BreakStatement, ContinueStatement, IfStatement, SwitchStatement, SwitchCase, TryStatement, CatchClause, WhileStatement, DoWhileStatement, ForStatement, ForInStatement, ForOfStatement, WithStatement, VariableDeclaration, VariableDeclarator, FunctionDeclaration, FunctionExpression, ArrowFunctionExpression, ClassDeclaration, ClassExpression, ClassBody, MethodDefinition, PropertyDefinition, StaticBlock, ArrayExpression, ObjectExpression, Property, SpreadElement, RestElement, UnaryExpression, UpdateExpression, BinaryExpression, LogicalExpression, AssignmentExpression, ConditionalExpression, CallExpression, NewExpression, MemberExpression, ChainExpression, SequenceExpression, YieldExpression, AwaitExpression, ImportExpression, MetaProperty, TemplateLiteral, TaggedTemplateExpression, TemplateElement, ObjectPattern, ArrayPattern, AssignmentPattern, Identifier, PrivateIdentifier, Literal, ImportDeclaration, ImportSpecifier, ImportDefaultSpecifier, ImportNamespaceSpecifier, ImportAttribute, ExportNamedDeclaration, ExportSpecifier, ExportDefaultDeclaration, ExportAllDeclaration}
-use Rattle.tree_nodes.specs.declared.table.Mode.{Mode}
-use Rattle.tree_nodes.specs.declared.table.Mode.TheVariants.{ByKind, ByOperator, Gives, Leaves, NamesExpression, NamesFunction, Same, UnlessComputed, UnlessOptional, UnlessSource}
+use Rattle.tree_nodes.specs.declared.table.Declared.TheVariants.{FunctionName}
 use Rattle.tree_nodes.specs.declared.table.Opens.{Opens}
 use Rattle.tree_nodes.specs.declared.table.Opens.TheVariants.{NameHere, PrivateNameHere}
-use Rattle.tree_nodes.specs.declared.table.Declared.TheVariants.{FunctionName}
 use Rattle.tree_nodes.specs.declared.table.Role.{Role}
-use Rattle.tree_nodes.specs.declared.table.Role.TheVariants.{Called, Declares, Plain, Read, ReadWrite, Write}
-use Rattle.tree_places.proofs.Outwards.{same-eq}
-use Rattle.tree_places.proofs.Runs.{AllOf, PairsOf, PairsOf-push}
+use Rattle.tree_nodes.specs.declared.table.Role.TheVariants.{Declares}
+use Rattle.tree_places.proofs.MarkedSettings.{mark_keeps_role, mark_keeps_scope}
+use Rattle.tree_places.proofs.Outwards.{same_scope_eq}
 use Rattle.tree_places.specs.Places.{Around, Seen, Setting, Site, at_field, before_all, enter, hide, met, nothing_yet, seen, side, sites, strict_in, walk}
 use Rattle.tree_places.specs.Scopes.{Scope, same_scope}
-use Rattle.scope_rules.proofs.Lists.{In, any-some, tested}
-use Rattle.scope_rules.proofs.VarScopes.{After, AllFit, AllOf-map, AllOf-reverse, Below, Fits, Met, field-fits, fits-more, hands_on, mark-role, mark-scope, met-fits, no_role, then-after, walk-fits}
+use Rattle.scope_rules.proofs.GivenRoles.{hands_on, no_role, IsNarrow, given_by_field, gives}
+use Rattle.scope_rules.proofs.VarScopes.{After, AllFit, Below, Fits, Met, field_fits, fits_more, met_fits, then_after, walk_fits}
 use Rattle.scope_rules.specs.FunctionNames.{FunctionNamesStandApart, begins_with_name, is_function_expression, is_identifier_kind, names_functions_once}
 use Rattle.scope_rules.specs.Homes.{home, is_function_name, is_var, names_function}
 use Rattle.scope_rules.specs.Open.{all_open}
@@ -30,15 +32,13 @@ use Rattle.scope_rules.specs.Separation.{function_names_apart}
 
 -- ---- which fields give the role of a function-name
 
-abbrev gives_name : Mode → Bool
-gives_name (Gives r) = is_function_name r
-gives_name (UnlessComputed i r) = is_function_name r
-gives_name (NamesExpression i j) = true
-gives_name _ = false
+is_function_name_narrow : IsNarrow is_function_name
+unfolding all_open
+is_function_name_narrow = record { plain = refl; read = refl; write = refl; read_write = refl; called = refl; variable = refl; lexical = refl; constant = refl; function = λ special. refl }
 
 -- in a node whose own role is that of a function-name, or isn't
 abbrev is_quiet : Bool → Column → Bool
-is_quiet own c = not (gives_name c.mode) && not (hands_on c.mode && own)
+is_quiet own c = not (gives is_function_name c.mode) && not (hands_on c.mode && own)
 
 abbrev all_quiet : Bool → Along → Bool
 all_quiet own (each cs) = list_all (is_quiet own) cs
@@ -131,56 +131,18 @@ unfolding all_open
 is_name_kind Identifier e = refl
 is_name_kind _ e = no_role e
 
-leaf_name : (r : Role) → is_function_name (elim r [ ReadWrite ↦ Write | r ↦ r ]) ≡ true → is_function_name r ≡ true
-unfolding all_open
-leaf_name ReadWrite h = h
-leaf_name (Declares d) h = h
-leaf_name _ h = h
-
-either_name : (b : Bool) (r q : Role) → is_function_name r ≡ false → is_function_name (cond b r q) ≡ true → is_function_name q ≡ true
-either_name true r q n h = absurd (both_ways _ n h)
-either_name false r q n h = h
-
-declared_unnamed : (n : ℕ) → is_function_name (Declares (declared_by n)) ≡ false
-unfolding all_open
-declared_unnamed zero = refl
-declared_unnamed (suc zero) = refl
-declared_unnamed (suc (suc n)) = refl
-
-written_unnamed : (n : ℕ) → is_function_name (written_by n) ≡ false
-unfolding all_open
-written_unnamed zero = refl
-written_unnamed (suc n) = refl
-
-named-by : (m : Mode) (own : Role) (fields : Parts) → is_function_name (role_at m own fields) ≡ true → (gives_name m ≡ true) ⊎ ((hands_on m ≡ true) × (is_function_name own ≡ true))
-unfolding all_open
-named-by (Gives r) own fields h = inl h
-named-by Same own fields h = inr (refl, h)
-named-by Leaves own fields h = inr (refl, leaf_name own h)
-named-by (UnlessComputed i r) own fields h = inl (either_name (flag_of (part fields i)) Read r refl h)
-named-by (ByKind i) own fields h = absurd (both_ways _ (declared_unnamed (word_of (part fields i))) h)
-named-by (UnlessOptional i) own fields h = no_role (either_name (flag_of (part fields i)) Read Called refl h)
-named-by (ByOperator i) own fields h = absurd (both_ways _ (written_unnamed (word_of (part fields i))) h)
-named-by (UnlessSource i) own fields h = no_role (either_name (is_empty (part fields i)) Read Plain refl h)
-named-by (NamesFunction i j) own fields h = no_role h
-named-by (NamesExpression i j) own fields h = inl refl
-
-not_true : (b : Bool) → not b ≡ true → b ≡ false
-not_true true h = absurd (both_ways false refl h)
-not_true false h = refl
-
 -- what a quiet field gives is no function-name
 quiet_role : (c : Column) (a : Around) → is_quiet (is_function_name a.outside.role) c ≡ true → is_function_name (at_field c a).role ≡ false
 unfolding all_open
 quiet_role c a q = tested (is_function_name (at_field c a).role)
     (λ h.
-    let two : (not (gives_name c.mode) ≡ true) × (not (hands_on c.mode && is_function_name a.outside.role) ≡ true) = and_parts _ _ q in
-    go two (named-by c.mode a.outside.role a.fields (subst (λ (r : Role). is_function_name r ≡ true) (mark-role c.mark _ _ _ _) h)))
+    let two : (not (gives is_function_name c.mode) ≡ true) × (not (hands_on c.mode && is_function_name a.outside.role) ≡ true) = and_parts _ _ q in
+    go two (given_by_field is_function_name is_function_name_narrow c.mode a.outside.role a.fields (subst (λ (r : Role). is_function_name r ≡ true) (mark_keeps_role c.mark _ _ _ _) h)))
     (λ h. h)
   where
-    go : (not (gives_name c.mode) ≡ true) × (not (hands_on c.mode && is_function_name a.outside.role) ≡ true) → (gives_name c.mode ≡ true) ⊎ ((hands_on c.mode ≡ true) × (is_function_name a.outside.role ≡ true)) → is_function_name (at_field c a).role ≡ false
-    go two (inl e) = absurd (both_ways _ (not_true _ two.0) e)
-    go two (inr e) = absurd (both_ways _ (not_true _ two.1) (and_from _ _ e.0 e.1))
+    go : (not (gives is_function_name c.mode) ≡ true) × (not (hands_on c.mode && is_function_name a.outside.role) ≡ true) → (gives is_function_name c.mode ≡ true) ⊎ ((hands_on c.mode ≡ true) × (is_function_name a.outside.role ≡ true)) → is_function_name (at_field c a).role ≡ false
+    go two (inl e) = absurd (both_ways _ (not-true _ two.0) e)
+    go two (inr e) = absurd (both_ways _ (not-true _ two.1) (and_from _ _ e.0 e.1))
 
 first_quiet : (b : Bool) (cs : Along) → all_quiet b cs ≡ true → is_quiet b (first_column cs) ≡ true
 unfolding all_open
@@ -202,7 +164,7 @@ Apart p q = names_function p ≡ true → names_function q ≡ true → home p �
 abbrev AllApart : List Site → Type 0
 AllApart ss = PairsOf Apart ss
 
-function_home : (s : Site) → names_function s ≡ true → home s ≡ s.setting.scope
+pub function_home : (s : Site) → names_function s ≡ true → home s ≡ s.setting.scope
 unfolding all_open
 function_home s h = go s.setting.role (and_parts _ _ h).1
   where
@@ -215,9 +177,9 @@ abbrev Fresh : Scope → List Site → Type 0
 Fresh h ss = AllOf (λ q. q.setting.scope ≡ h → ⊥) ss
 
 -- a node is met: its own place is no function-name, or one whose scope is fresh
-met-apart : (o : Opens) (b : ℕ) (e : Setting) (inner : Scope) (s : Seen) → (is_function_name e.role ≡ false) ⊎ Fresh e.scope s.sites → AllApart s.sites → AllApart (met o b e inner s).sites
+met_apart : (o : Opens) (b : ℕ) (e : Setting) (inner : Scope) (s : Seen) → (is_function_name e.role ≡ false) ⊎ Fresh e.scope s.sites → AllApart s.sites → AllApart (met o b e inner s).sites
 unfolding all_open
-met-apart NameHere b e inner s c a = (go c, a)
+met_apart NameHere b e inner s c a = (go c, a)
   where
     quiet : is_function_name e.role ≡ false → (ss : List Site) → AllOf (Apart (record { node = s.nodes; start = b; private = false; setting = e })) ss
     quiet n [] = tt
@@ -230,16 +192,16 @@ met-apart NameHere b e inner s c a = (go c, a)
     go : (is_function_name e.role ≡ false) ⊎ Fresh e.scope s.sites → AllOf (Apart (record { node = s.nodes; start = b; private = false; setting = e })) s.sites
     go (inl n) = quiet n s.sites
     go (inr f) = fresh s.sites f
-met-apart PrivateNameHere b e inner s c a = (private s.sites, a)
+met_apart PrivateNameHere b e inner s c a = (private s.sites, a)
   where
     private : (ss : List Site) → AllOf (Apart (record { node = s.nodes; start = b; private = true; setting = e })) ss
     private [] = tt
     private (q ∷ qs) = ((λ f g h. no_role f), private qs)
-met-apart _ b e inner s c a = a
+met_apart _ b e inner s c a = a
 
 -- what a new scope is: none of the sites so far has it
 new_fresh : (v : ℕ → Bool) (n : ℕ) (outer : Scope) (ss : List Site) → AllFit v n ss → Fresh (n ∷ outer) ss
-new_fresh v n outer ss a = AllOf-map (λ q. Fits v n q.setting) (λ q. q.setting.scope ≡ n ∷ outer → ⊥) (λ q p e. let h : n < n = (subst (Below n) e p.below).0 in omega (arith, h)) ss a
+new_fresh v n outer ss a = AllOf_weaken (λ q. Fits v n q.setting) (λ q. q.setting.scope ≡ n ∷ outer → ⊥) (λ q p e. let h : n < n = (subst (Below n) e p.below).0 in omega (arith, h)) ss a
 
 -- the first field of a function expression: it lies in the new scope
 record Naming (x : Parts) (columns : Along) (a : Around) (s : Seen) : Type 0 where
@@ -253,7 +215,7 @@ Ready x columns a s = (all_quiet (is_function_name a.outside.role) columns ≡ t
 
 field_scope : (c : Column) (a : Around) → c.inside ≡ true → (at_field c a).scope ≡ a.inside.scope
 unfolding all_open
-field_scope c a h = mark-scope c.mark _ _ _ _ ∙ ap (λ b. (side b a).scope) h
+field_scope c a h = mark_keeps_scope c.mark _ _ _ _ ∙ ap (λ b. (side b a).scope) h
 
 -- the fields of a node whose own role is no function-name
 entered : (k : Kind) (fields : Parts) (e : Setting) (b : ℕ) (s : Seen) (u : ℕ → Bool) → AllFit u (length s.scopes) s.sites → is_function_name e.role ≡ false → (not (is_function_expression k) || begins_with_name fields) ≡ true
@@ -277,37 +239,37 @@ identifier_quiet k b e = subst (λ (j : Kind). all_quiet b (each (row j).columns
     go true = refl
     go false = refl
 
-walk-apart : (x : Parts) (columns : Along) (a : Around) (s : Seen) (u : ℕ → Bool) → Fits u (length s.scopes) a.outside → Fits u (length s.scopes) a.inside → AllFit u (length s.scopes) s.sites
+walk_apart : (x : Parts) (columns : Along) (a : Around) (s : Seen) (u : ℕ → Bool) → Fits u (length s.scopes) a.outside → Fits u (length s.scopes) a.inside → AllFit u (length s.scopes) s.sites
     → names_functions_once x ≡ true → Ready x columns a s → AllApart s.sites → AllApart (walk x columns a s).sites
 unfolding all_open
-walk-apart done columns a s u p q r h c d = d
-walk-apart (atom v more) columns a s u p q r h (inl c) d = walk-apart more (other_columns columns) a s u p q r h (inl (others_quiet _ columns c)) d
-walk-apart (atom v more) columns a s u p q r h (inr c) d = walk-apart more (other_columns columns) a s u p q r h (inl c.others) d
-walk-apart (many items more) columns a s u p q r h (inr c) d = no_role c.begins
-walk-apart (many items more) columns a s u p q r h (inl c) d =
+walk_apart done columns a s u p q r h c d = d
+walk_apart (atom v more) columns a s u p q r h (inl c) d = walk_apart more (other_columns columns) a s u p q r h (inl (others_quiet _ columns c)) d
+walk_apart (atom v more) columns a s u p q r h (inr c) d = walk_apart more (other_columns columns) a s u p q r h (inl c.others) d
+walk_apart (many items more) columns a s u p q r h (inr c) d = no_role c.begins
+walk_apart (many items more) columns a s u p q r h (inl c) d =
     let two : (names_functions_once items ≡ true) × (names_functions_once more ≡ true) = and_parts _ _ h in
     let s₁ : Seen = walk items (all (first_column columns)) a s in
-    let one : After u s s₁ = walk-fits items (all (first_column columns)) a s u p q r in
-    walk-apart more (other_columns columns) a s₁ one.vars
-    (fits-more u one.vars (length s.scopes) (length s₁.scopes) a.outside one.more one.agree p) (fits-more u one.vars (length s.scopes) (length s₁.scopes) a.inside one.more one.agree q) one.placed
+    let one : After u s s₁ = walk_fits items (all (first_column columns)) a s u p q r in
+    walk_apart more (other_columns columns) a s₁ one.vars
+    (fits_more u one.vars (length s.scopes) (length s₁.scopes) a.outside one.more one.agree p) (fits_more u one.vars (length s.scopes) (length s₁.scopes) a.inside one.more one.agree q) one.placed
     two.1 (inl (others_quiet _ columns c))
-    (walk-apart items (all (first_column columns)) a s u p q r two.0 (inl (first_quiet _ columns c)) d)
-walk-apart (child k b st fields more) columns a s u p q r h c d =
+    (walk_apart items (all (first_column columns)) a s u p q r two.0 (inl (first_quiet _ columns c)) d)
+walk_apart (child k b st fields more) columns a s u p q r h c d =
     let three : (((not (is_function_expression k) || begins_with_name fields) && names_functions_once fields) ≡ true) × (names_functions_once more ≡ true) = and_parts _ _ h in
     let four : ((not (is_function_expression k) || begins_with_name fields) ≡ true) × (names_functions_once fields ≡ true) = and_parts _ _ three.0 in
     let here : Setting = at_field (first_column columns) a in
     let around : Around = enter (row k) (hide k fields) here s in
     let s₁ : Seen = met (row k).opens b here around.inside.scope s in
     let s₂ : Seen = walk fields (each (row k).columns) around s₁ in
-    let f : Fits u (length s.scopes) here = field-fits (first_column columns) u (length s.scopes) a p q in
-    let m : Met u s s₁ around.inside = met-fits (row k).opens b here (strict_in (row k).strict here.strict (hide k fields)) u s f r in
-    let g : Fits m.after.vars (length s₁.scopes) here = fits-more u m.after.vars (length s.scopes) (length s₁.scopes) here m.after.more m.after.agree f in
-    let two : After m.after.vars s₁ s₂ = walk-fits fields (each (row k).columns) around s₁ m.after.vars g m.inside m.after.placed in
-    let both : After u s s₂ = then-after u s s₁ s₂ m.after two in
-    walk-apart more (other_columns columns) a s₂ both.vars
-    (fits-more u both.vars (length s.scopes) (length s₂.scopes) a.outside both.more both.agree p) (fits-more u both.vars (length s.scopes) (length s₂.scopes) a.inside both.more both.agree q) both.placed
+    let f : Fits u (length s.scopes) here = field_fits (first_column columns) u (length s.scopes) a p q in
+    let m : Met u s s₁ around.inside = met_fits (row k).opens b here (strict_in (row k).strict here.strict (hide k fields)) u s f r in
+    let g : Fits m.after.vars (length s₁.scopes) here = fits_more u m.after.vars (length s.scopes) (length s₁.scopes) here m.after.more m.after.agree f in
+    let two : After m.after.vars s₁ s₂ = walk_fits fields (each (row k).columns) around s₁ m.after.vars g m.inside m.after.placed in
+    let both : After u s s₂ = then_after u s s₁ s₂ m.after two in
+    walk_apart more (other_columns columns) a s₂ both.vars
+    (fits_more u both.vars (length s.scopes) (length s₂.scopes) a.outside both.more both.agree p) (fits_more u both.vars (length s.scopes) (length s₂.scopes) a.inside both.more both.agree q) both.placed
     three.1 (inl (rest c))
-    (walk-apart fields (each (row k).columns) around s₁ m.after.vars g m.inside m.after.placed four.1 (fields_ready c four.0) (met-apart (row k).opens b here around.inside.scope s (own c) d))
+    (walk_apart fields (each (row k).columns) around s₁ m.after.vars g m.inside m.after.placed four.1 (fields_ready c four.0) (met_apart (row k).opens b here around.inside.scope s (own c) d))
   where
     rest : Ready (child k b st fields more) columns a s → all_quiet (is_function_name a.outside.role) (other_columns columns) ≡ true
     rest (inl z) = others_quiet _ columns z
@@ -324,11 +286,11 @@ walk-apart (child k b st fields more) columns a s u p q r h c d =
 
 -- ---- a tree
 
-pairs-reverse : (ss : List Site) → AllApart ss → AllApart (reverse ss)
+pairs_reverse : (ss : List Site) → AllApart ss → AllApart (reverse ss)
 unfolding all_open
-pairs-reverse [] p = tt
-pairs-reverse (s ∷ ss) p = rw (reverse_onto ss s []) (PairsOf-push Apart (reverse ss) s (pairs-reverse ss p.1)
-    (AllOf-reverse (λ q. Apart q s) ss (AllOf-map (Apart s) (λ q. Apart q s) (λ q f g h e. f h g (sym e)) ss p.0)))
+pairs_reverse [] p = tt
+pairs_reverse (s ∷ ss) p = rw (reverse_onto ss s []) (PairsOf_push Apart (reverse ss) s (pairs_reverse ss p.1)
+    (AllOf_reverse (λ q. Apart q s) ss (AllOf_weaken (Apart s) (λ q. Apart q s) (λ q f g h e. f h g (sym e)) ss p.0)))
 
 apart_told : (ss : List Site) → AllApart ss → function_names_apart ss ≡ true
 unfolding all_open
@@ -339,9 +301,9 @@ apart_told (s ∷ ss) p = and_from _ _ (none (names_function s && list_any (λ r
     none true f = absurd (f refl)
     none false f = refl
 
-    of-each : (qs : List Site) → AllOf (Apart s) qs → (q : Site) → In q qs → Apart s q
-    of-each [] a q i = absurd i
-    of-each (y ∷ ys) a q i = go i (of-each ys a.1 q)
+    of_each : (qs : List Site) → AllOf (Apart s) qs → (q : Site) → In q qs → Apart s q
+    of_each [] a q i = absurd i
+    of_each (y ∷ ys) a q i = go i (of_each ys a.1 q)
       where
         go : (y ≡ q) ⊎ In q ys → (In q ys → Apart s q) → Apart s q
         go (inl e) ih = subst (Apart s) e a.0
@@ -350,12 +312,12 @@ apart_told (s ∷ ss) p = and_from _ _ (none (names_function s && list_any (λ r
     clash : (names_function s && list_any (λ r. names_function r && same_scope (home r) (home s)) ss) ≡ true → ⊥
     clash e =
         let two : (names_function s ≡ true) × (list_any (λ r. names_function r && same_scope (home r) (home s)) ss ≡ true) = and_parts _ _ e in
-        let w : (q : Site) × In q ss × ((names_function q && same_scope (home q) (home s)) ≡ true) = any-some (λ r. names_function r && same_scope (home r) (home s)) ss two.1 in
+        let w : (q : Site) × In q ss × ((names_function q && same_scope (home q) (home s)) ≡ true) = any_some (λ r. names_function r && same_scope (home r) (home s)) ss two.1 in
         let three : (names_function w.0 ≡ true) × (same_scope (home w.0) (home s) ≡ true) = and_parts _ _ w.2 in
-        of-each ss p.0 w.0 w.1 two.0 three.0 (sym (same-eq (home w.0) (home s) three.1))
+        of_each ss p.0 w.0 w.1 two.0 three.0 (sym (same_scope_eq (home w.0) (home s) three.1))
 
 pub function_names_stand_apart : FunctionNamesStandApart
 unfolding all_open
 function_names_stand_apart t h =
-    apart_told (sites t) (pairs-reverse (seen t).sites
-    (walk-apart t (all unlisted) before_all nothing_yet (λ k. false) (record { below = tt; near = refl }) (record { below = tt; near = refl }) tt h (inl refl) tt))
+    apart_told (sites t) (pairs_reverse (seen t).sites
+    (walk_apart t (all unlisted) before_all nothing_yet (λ k. false) (record { below = tt; near = refl }) (record { below = tt; near = refl }) tt h (inl refl) tt))

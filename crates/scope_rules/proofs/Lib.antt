@@ -1,6 +1,11 @@
-pub mod Lists
-pub mod Stay
-pub mod Faultless
+-- places and names
+pub mod PlacesRise
+pub mod SameNames
+-- bindings and faults under new names
+pub mod BindingsStay
+pub mod NoNewFaults
+-- var scopes and function-names, and names that are in use together
+pub mod GivenRoles
 pub mod VarScopes
-pub mod Separate
 pub mod FunctionNames
+pub mod NamesSeparate

@@ -1,31 +1,28 @@
 -- Of each tree: the var scope of a place is the nearest var scope outwards, whichever place is asked, and parameters and function-names stand in one.
-use Rattle.std.specs.Prelude.{◌≡◌, ◌⊎◌, ℕ, zero, suc, ◌<◌, ◌≤◌, Bool, true, false, cond, not, ◌&&◌, ◌||◌, nat_eq, List, [], ◌∷◌, length, reverse}
 use Rattle.std.specs.List.{list_all}
+use Rattle.std.specs.Prelude.{◌≡◌, ◌⊎◌, ℕ, suc, ◌<◌, ◌≤◌, Bool, true, false, cond, not, ◌&&◌, ◌||◌, nat_eq, List, [], ◌∷◌, length}
 use Rattle.std.proofs.Common.{refl, sym, ap, ◌∙◌, subst, arith, inl, inr}
-use Rattle.std.proofs.lemmas.Bool.{or_cases, and_parts, both_ways, eq-eqb, ne_eqb}
-use Rattle.std.proofs.lemmas.Grind.{reverse_onto}
+use Rattle.std.proofs.lemmas.Bool.{or_cases, and_parts, both_ways, eq-eqb, ne_eqb, not-true}
+use Rattle.list_laws.proofs.AllOf.{AllOf, AllOf_reverse, AllOf_weaken, of_each}
+use Rattle.list_laws.proofs.Members.{In}
 use Rattle.tree_nodes.specs.Along.{Along, all, each, first_column, other_columns}
-use Rattle.tree_nodes.specs.Roles.{declared_by, role_at, written_by}
+use Rattle.tree_nodes.specs.Roles.{role_at}
 use Rattle.tree_nodes.specs.Table.{Column, row, unlisted}
-use Rattle.tree_nodes.specs.Tree.{Parts, atom, child, done, flag_of, is_empty, many, part, word_of}
+use Rattle.tree_nodes.specs.Tree.{Parts, atom, child, done, many}
 use Rattle.tree_nodes.specs.declared.kind.Kind.{Kind}
 use Rattle.tree_nodes.specs.declared.kind.Kind.TheVariants.{Program, Hashbang, ExpressionStatement, BlockStatement, EmptyStatement, DebuggerStatement, ThisExpression, Super, ReturnStatement, ThrowStatement, LabeledStatement, BreakStatement, ContinueStatement, IfStatement, SwitchStatement, SwitchCase, TryStatement, CatchClause, WhileStatement, DoWhileStatement, ForStatement, ForInStatement, ForOfStatement, WithStatement, VariableDeclaration, VariableDeclarator, FunctionDeclaration, FunctionExpression, ArrowFunctionExpression, ClassDeclaration, ClassExpression, ClassBody, MethodDefinition, PropertyDefinition, StaticBlock, ArrayExpression, ObjectExpression, Property, SpreadElement, RestElement, UnaryExpression, UpdateExpression, BinaryExpression, LogicalExpression, AssignmentExpression, ConditionalExpression, CallExpression, NewExpression, MemberExpression, ChainExpression, SequenceExpression, YieldExpression, AwaitExpression, ImportExpression, MetaProperty, TemplateLiteral, TaggedTemplateExpression, TemplateElement, ObjectPattern, ArrayPattern, AssignmentPattern, Identifier, PrivateIdentifier, Literal, ImportDeclaration, ImportSpecifier, ImportDefaultSpecifier, ImportNamespaceSpecifier, ImportAttribute, ExportNamedDeclaration, ExportSpecifier, ExportDefaultDeclaration, ExportAllDeclaration}
 use Rattle.tree_nodes.specs.declared.table.Declared.TheVariants.{FunctionName, Param}
-use Rattle.tree_nodes.specs.declared.table.Mark.{Mark}
-use Rattle.tree_nodes.specs.declared.table.Mark.TheVariants.{Usual}
-use Rattle.tree_nodes.specs.declared.table.Mode.{Mode}
-use Rattle.tree_nodes.specs.declared.table.Mode.TheVariants.{ByKind, ByOperator, Gives, Leaves, NamesExpression, NamesFunction, Same, UnlessComputed, UnlessOptional, UnlessSource}
 use Rattle.tree_nodes.specs.declared.table.Opens.{Opens}
 use Rattle.tree_nodes.specs.declared.table.Opens.TheVariants.{BareBlock, Block, ClassMembers, Hoisting, NameHere, Nothing, PrivateNameHere, WithBody}
 use Rattle.tree_nodes.specs.declared.table.Role.{Role}
-use Rattle.tree_nodes.specs.declared.table.Role.TheVariants.{Called, Declares, Plain, Read, ReadWrite, Write}
-use Rattle.tree_places.proofs.Outwards.{same-eq}
-use Rattle.tree_places.proofs.Runs.{AllOf, AllOf-push}
+use Rattle.tree_nodes.specs.declared.table.Role.TheVariants.{Declares}
+use Rattle.tree_places.proofs.MarkedSettings.{inner_setting, mark_keeps_role, mark_keeps_scope, mark_keeps_var_scope}
+use Rattle.tree_places.proofs.Outwards.{same_scope_eq}
 use Rattle.tree_places.specs.Lineage.{opens_var_scope}
 use Rattle.tree_places.specs.Open.{all_open}
-use Rattle.tree_places.specs.Places.{Around, Seen, Setting, Site, at_field, before_all, enter, hide, met, nothing_yet, opened, seen, side, sites, strict_in, walk, with_mark}
+use Rattle.tree_places.specs.Places.{Around, Seen, Setting, Site, at_field, before_all, enter, hide, met, nothing_yet, opened, seen, side, sites, strict_in, walk}
 use Rattle.tree_places.specs.Scopes.{Scope, is_inside, same_scope}
-use Rattle.scope_rules.proofs.Lists.{In}
+use Rattle.scope_rules.proofs.GivenRoles.{IsNarrow, given_by_field, gives, hands_on, no_role}
 
 -- ---- the nearest scope outwards whose number is that of a var scope
 
@@ -47,54 +44,37 @@ pub record Fits (v : ℕ → Bool) (n : ℕ) (e : Setting) : Type 0 where
 abbrev pub AllFit : (ℕ → Bool) → ℕ → List Site → Type 0
 AllFit v n ss = AllOf (λ q. Fits v n q.setting) ss
 
-pub AllOf-map : {X : Type 0} (P Q : X → Type 0) → ((x : X) → P x → Q x) → (xs : List X) → AllOf P xs → AllOf Q xs
-AllOf-map P Q f [] a = tt
-AllOf-map P Q f (x ∷ xs) a = (f x a.0, AllOf-map P Q f xs a.1)
+nearest_same : (u v : ℕ → Bool) (n : ℕ) (s : Scope) → Agree u v n → Below n s → nearest u s ≡ nearest v s
+nearest_same u v n [] f b = refl
+nearest_same u v n (k ∷ ks) f b =
+    ap (λ c. cond c (k ∷ ks) (nearest u ks)) (f k b.0) ∙ ap (λ (r : Scope). cond (v k) (k ∷ ks) r) (nearest_same u v n ks f b.1)
 
-of-each : {X : Type 0} (P : X → Type 0) (xs : List X) (x : X) → AllOf P xs → In x xs → P x
-of-each P [] x a i = absurd i
-of-each {X} P (y ∷ ys) x a i = go i (of-each P ys x a.1)
-  where
-    go : (y ≡ x) ⊎ In x ys → (In x ys → P x) → P x
-    go (inl e) ih = subst P e a.0
-    go (inr j) ih = ih j
+below_more : (m n : ℕ) (s : Scope) → m ≤ n → Below m s → Below n s
+below_more m n s h b = AllOf_weaken (λ k. k < m) (λ k. k < n) (λ k i. omega (arith, h, i)) s b
 
-pub AllOf-reverse : {X : Type 0} (P : X → Type 0) (xs : List X) → AllOf P xs → AllOf P (reverse xs)
-unfolding all_open
-AllOf-reverse P [] a = tt
-AllOf-reverse P (x ∷ xs) a = rw (reverse_onto xs x []) (AllOf-push P (reverse xs) x (AllOf-reverse P xs a.1) a.0)
+pub fits_more : (u v : ℕ → Bool) (m n : ℕ) (e : Setting) → m ≤ n → Agree u v m → Fits u m e → Fits v n e
+fits_more u v m n e h f p = record { below = below_more m n e.scope h p.below; near = sym (nearest_same u v m e.scope f p.below) ∙ p.near }
 
-nearest-same : (u v : ℕ → Bool) (n : ℕ) (s : Scope) → Agree u v n → Below n s → nearest u s ≡ nearest v s
-nearest-same u v n [] f b = refl
-nearest-same u v n (k ∷ ks) f b =
-    ap (λ c. cond c (k ∷ ks) (nearest u ks)) (f k b.0) ∙ ap (λ (r : Scope). cond (v k) (k ∷ ks) r) (nearest-same u v n ks f b.1)
-
-below-more : (m n : ℕ) (s : Scope) → m ≤ n → Below m s → Below n s
-below-more m n s h b = AllOf-map (λ k. k < m) (λ k. k < n) (λ k i. omega (arith, h, i)) s b
-
-pub fits-more : (u v : ℕ → Bool) (m n : ℕ) (e : Setting) → m ≤ n → Agree u v m → Fits u m e → Fits v n e
-fits-more u v m n e h f p = record { below = below-more m n e.scope h p.below; near = sym (nearest-same u v m e.scope f p.below) ∙ p.near }
-
-all-more : (u v : ℕ → Bool) (m n : ℕ) (ss : List Site) → m ≤ n → Agree u v m → AllFit u m ss → AllFit v n ss
-all-more u v m n ss h f a = AllOf-map (λ q. Fits u m q.setting) (λ q. Fits v n q.setting) (λ q p. fits-more u v m n q.setting h f p) ss a
+all_more : (u v : ℕ → Bool) (m n : ℕ) (ss : List Site) → m ≤ n → Agree u v m → AllFit u m ss → AllFit v n ss
+all_more u v m n ss h f a = AllOf_weaken (λ q. Fits u m q.setting) (λ q. Fits v n q.setting) (λ q p. fits_more u v m n q.setting h f p) ss a
 
 -- the same, with whether the scope n is a var scope
 abbrev marked : (ℕ → Bool) → ℕ → Bool → ℕ → Bool
 marked u n h k = cond (nat_eq k n) h (u k)
 
-marked-agree : (u : ℕ → Bool) (n : ℕ) (h : Bool) → Agree u (marked u n h) n
-marked-agree u n h k i = sym (ap (λ b. cond b h (u k)) (ne_eqb k n (λ e. omega (arith, i, e))))
+marked_agree : (u : ℕ → Bool) (n : ℕ) (h : Bool) → Agree u (marked u n h) n
+marked_agree u n h k i = sym (ap (λ b. cond b h (u k)) (ne_eqb k n (λ e. omega (arith, i, e))))
 
-marked-self : (u : ℕ → Bool) (n : ℕ) (h : Bool) → marked u n h n ≡ h
-marked-self u n h = ap (λ b. cond b h (u n)) (eq-eqb n n refl)
+marked_self : (u : ℕ → Bool) (n : ℕ) (h : Bool) → marked u n h n ≡ h
+marked_self u n h = ap (λ b. cond b h (u n)) (eq-eqb n n refl)
 
-inside-below : (n : ℕ) (s : Scope) → Below n s → Below (suc n) (n ∷ s)
-inside-below n s b = (omega arith, below-more n (suc n) s (omega arith) b)
+inside_below : (n : ℕ) (s : Scope) → Below n s → Below (suc n) (n ∷ s)
+inside_below n s b = (omega arith, below_more n (suc n) s (omega arith) b)
 
-inside-near : (u : ℕ → Bool) (n : ℕ) (h : Bool) (e : Setting) → Fits u n e → nearest (marked u n h) (n ∷ e.scope) ≡ cond h (n ∷ e.scope) e.var_scope
-inside-near u n h e p =
-    ap (λ b. cond b (n ∷ e.scope) (nearest (marked u n h) e.scope)) (marked-self u n h)
-    ∙ ap (λ (r : Scope). cond h (n ∷ e.scope) r) (sym (nearest-same u (marked u n h) n e.scope (marked-agree u n h) p.below) ∙ p.near)
+inside_near : (u : ℕ → Bool) (n : ℕ) (h : Bool) (e : Setting) → Fits u n e → nearest (marked u n h) (n ∷ e.scope) ≡ cond h (n ∷ e.scope) e.var_scope
+inside_near u n h e p =
+    ap (λ b. cond b (n ∷ e.scope) (nearest (marked u n h) e.scope)) (marked_self u n h)
+    ∙ ap (λ (r : Scope). cond h (n ∷ e.scope) r) (sym (nearest_same u (marked u n h) n e.scope (marked_agree u n h) p.below) ∙ p.near)
 
 -- ---- the walk
 
@@ -108,34 +88,16 @@ pub record Met (u : ℕ → Bool) (s s' : Seen) (inner : Setting) : Type 0 where
   pub after : After u s s'
   pub inside : Fits after.vars (length s'.scopes) inner
 
-abbrev inner : Opens → Setting → Bool → Seen → Setting
-inner o e strict s = opened o (length s.scopes) s.classes (record e { strict = strict })
-
-pub mark-scope : (k : Mark) (fields : Parts) (n : ℕ) (o : List ℕ) (e : Setting) → (with_mark k fields n o e).scope ≡ e.scope
+side_fits : (b : Bool) (v : ℕ → Bool) (n : ℕ) (a : Around) → Fits v n a.outside → Fits v n a.inside → Fits v n (side b a)
 unfolding all_open
-mark-scope Usual fields n o e = refl
-mark-scope _ fields n o e = refl
+side_fits true v n a p q = q
+side_fits false v n a p q = p
 
-mark-var : (k : Mark) (fields : Parts) (n : ℕ) (o : List ℕ) (e : Setting) → (with_mark k fields n o e).var_scope ≡ e.var_scope
+pub field_fits : (f : Column) (v : ℕ → Bool) (n : ℕ) (a : Around) → Fits v n a.outside → Fits v n a.inside → Fits v n (at_field f a)
 unfolding all_open
-mark-var Usual fields n o e = refl
-mark-var _ fields n o e = refl
-
-pub mark-role : (k : Mark) (fields : Parts) (n : ℕ) (o : List ℕ) (e : Setting) → (with_mark k fields n o e).role ≡ e.role
-unfolding all_open
-mark-role Usual fields n o e = refl
-mark-role _ fields n o e = refl
-
-side-fits : (b : Bool) (v : ℕ → Bool) (n : ℕ) (a : Around) → Fits v n a.outside → Fits v n a.inside → Fits v n (side b a)
-unfolding all_open
-side-fits true v n a p q = q
-side-fits false v n a p q = p
-
-pub field-fits : (f : Column) (v : ℕ → Bool) (n : ℕ) (a : Around) → Fits v n a.outside → Fits v n a.inside → Fits v n (at_field f a)
-unfolding all_open
-field-fits f v n a p q =
-    let s : Fits v n (side f.inside a) = side-fits f.inside v n a p q in
-    record { below = rw (mark-scope f.mark) s.below; near = rw (mark-scope f.mark, mark-var f.mark) s.near }
+field_fits f v n a p q =
+    let s : Fits v n (side f.inside a) = side_fits f.inside v n a p q in
+    record { below = rw (mark_keeps_scope f.mark) s.below; near = rw (mark_keeps_scope f.mark, mark_keeps_var_scope f.mark) s.near }
 
 -- a node that opens no scope, and one that does
 unopened : (u : ℕ → Bool) (s s' : Seen) (e e' : Setting) → length s'.scopes ≡ length s.scopes → e'.scope ≡ e.scope → e'.var_scope ≡ e.var_scope
@@ -145,69 +107,69 @@ unopened u s s' e e' h i j p a = record {
   inside = record { below = subst (λ (n : ℕ). Below n e'.scope) (sym h) (subst (Below (length s.scopes)) (sym i) p.below); near = ap (nearest u) i ∙ p.near ∙ sym j };
 }
 
-newly : (u : ℕ → Bool) (h : Bool) (s s' : Seen) (e e' : Setting) → length s'.scopes ≡ suc (length s.scopes) → s'.sites ≡ s.sites
+newly_opened : (u : ℕ → Bool) (h : Bool) (s s' : Seen) (e e' : Setting) → length s'.scopes ≡ suc (length s.scopes) → s'.sites ≡ s.sites
     → e'.scope ≡ length s.scopes ∷ e.scope → e'.var_scope ≡ cond h (length s.scopes ∷ e.scope) e.var_scope
     → Fits u (length s.scopes) e → AllFit u (length s.scopes) s.sites → Met u s s' e'
-newly u h s s' e e' l w i j p a =
+newly_opened u h s s' e e' l w i j p a =
     let v : ℕ → Bool = marked u (length s.scopes) h in
-    let b : AllFit v (suc (length s.scopes)) s.sites = all-more u v (length s.scopes) (suc (length s.scopes)) s.sites (omega arith) (marked-agree u (length s.scopes) h) a in
+    let b : AllFit v (suc (length s.scopes)) s.sites = all_more u v (length s.scopes) (suc (length s.scopes)) s.sites (omega arith) (marked_agree u (length s.scopes) h) a in
     record {
-      after = record { vars = v; agree = marked-agree u (length s.scopes) h; more = omega (arith, l); placed = subst (λ (n : ℕ). AllFit v n s'.sites) (sym l) (subst (AllFit v (suc (length s.scopes))) (sym w) b) };
+      after = record { vars = v; agree = marked_agree u (length s.scopes) h; more = omega (arith, l); placed = subst (λ (n : ℕ). AllFit v n s'.sites) (sym l) (subst (AllFit v (suc (length s.scopes))) (sym w) b) };
       inside = record {
-        below = subst (λ (n : ℕ). Below n e'.scope) (sym l) (subst (Below (suc (length s.scopes))) (sym i) (inside-below (length s.scopes) e.scope p.below));
-        near = ap (nearest v) i ∙ inside-near u (length s.scopes) h e p ∙ sym j;
+        below = subst (λ (n : ℕ). Below n e'.scope) (sym l) (subst (Below (suc (length s.scopes))) (sym i) (inside_below (length s.scopes) e.scope p.below));
+        near = ap (nearest v) i ∙ inside_near u (length s.scopes) h e p ∙ sym j;
       };
     }
 
-pub met-fits : (o : Opens) (b : ℕ) (e : Setting) (strict : Bool) (u : ℕ → Bool) (s : Seen) → Fits u (length s.scopes) e → AllFit u (length s.scopes) s.sites
-    → Met u s (met o b e (inner o e strict s).scope s) (inner o e strict s)
+pub met_fits : (o : Opens) (b : ℕ) (e : Setting) (strict : Bool) (u : ℕ → Bool) (s : Seen) → Fits u (length s.scopes) e → AllFit u (length s.scopes) s.sites
+    → Met u s (met o b e (inner_setting o e strict s).scope s) (inner_setting o e strict s)
 unfolding all_open
-met-fits Nothing b e strict u s p a = unopened u s _ e _ refl refl refl p a
-met-fits Block b e strict u s p a = newly u false s _ e _ refl refl refl refl p a
-met-fits WithBody b e strict u s p a = newly u false s _ e _ refl refl refl refl p a
-met-fits Hoisting b e strict u s p a = newly u true s _ e _ refl refl refl refl p a
-met-fits ClassMembers b e strict u s p a = unopened u s _ e _ refl refl refl p a
-met-fits NameHere b e strict u s p a = unopened u s _ e _ refl refl refl p (p, a)
-met-fits PrivateNameHere b e strict u s p a = unopened u s _ e _ refl refl refl p (p, a)
-met-fits BareBlock b e strict u s p a = go e.bare
+met_fits Nothing b e strict u s p a = unopened u s _ e _ refl refl refl p a
+met_fits Block b e strict u s p a = newly_opened u false s _ e _ refl refl refl refl p a
+met_fits WithBody b e strict u s p a = newly_opened u false s _ e _ refl refl refl refl p a
+met_fits Hoisting b e strict u s p a = newly_opened u true s _ e _ refl refl refl refl p a
+met_fits ClassMembers b e strict u s p a = unopened u s _ e _ refl refl refl p a
+met_fits NameHere b e strict u s p a = unopened u s _ e _ refl refl refl p (p, a)
+met_fits PrivateNameHere b e strict u s p a = unopened u s _ e _ refl refl refl p (p, a)
+met_fits BareBlock b e strict u s p a = go e.bare
   where
     go : (c : Bool) → Met u s (record s { nodes = suc s.nodes; scopes = cond c s.scopes ((cond c (record e { strict = strict }) (record e { strict = strict; scope = length s.scopes ∷ e.scope })).scope ∷ s.scopes) })
         (cond c (record e { strict = strict }) (record e { strict = strict; scope = length s.scopes ∷ e.scope }))
     go true = unopened u s _ e _ refl refl refl p a
-    go false = newly u false s _ e _ refl refl refl refl p a
+    go false = newly_opened u false s _ e _ refl refl refl refl p a
 
-pub then-after : (u : ℕ → Bool) (s s' s'' : Seen) (a : After u s s') → After a.vars s' s'' → After u s s''
-then-after u s s' s'' a b = record {
+pub then_after : (u : ℕ → Bool) (s s' s'' : Seen) (a : After u s s') → After a.vars s' s'' → After u s s''
+then_after u s s' s'' a b = record {
   vars = b.vars;
   agree = λ k i. a.agree k i ∙ b.agree k (let m : length s.scopes ≤ length s'.scopes = a.more in omega (arith, i, m));
   more = (let m : length s.scopes ≤ length s'.scopes = a.more in let n : length s'.scopes ≤ length s''.scopes = b.more in omega (arith, m, n));
   placed = b.placed;
 }
 
-pub walk-fits : (x : Parts) (columns : Along) (a : Around) (s : Seen) (u : ℕ → Bool) → Fits u (length s.scopes) a.outside → Fits u (length s.scopes) a.inside → AllFit u (length s.scopes) s.sites
+pub walk_fits : (x : Parts) (columns : Along) (a : Around) (s : Seen) (u : ℕ → Bool) → Fits u (length s.scopes) a.outside → Fits u (length s.scopes) a.inside → AllFit u (length s.scopes) s.sites
     → After u s (walk x columns a s)
 unfolding all_open
-walk-fits done columns a s u p q r = record { vars = u; agree = λ k i. refl; more = omega arith; placed = r }
-walk-fits (atom v more) columns a s u p q r = walk-fits more (other_columns columns) a s u p q r
-walk-fits (many items more) columns a s u p q r =
+walk_fits done columns a s u p q r = record { vars = u; agree = λ k i. refl; more = omega arith; placed = r }
+walk_fits (atom v more) columns a s u p q r = walk_fits more (other_columns columns) a s u p q r
+walk_fits (many items more) columns a s u p q r =
     let s₁ : Seen = walk items (all (first_column columns)) a s in
-    let one : After u s s₁ = walk-fits items (all (first_column columns)) a s u p q r in
-    then-after u s s₁ (walk more (other_columns columns) a s₁) one
-    (walk-fits more (other_columns columns) a s₁ one.vars
-    (fits-more u one.vars (length s.scopes) (length s₁.scopes) a.outside one.more one.agree p) (fits-more u one.vars (length s.scopes) (length s₁.scopes) a.inside one.more one.agree q) one.placed)
-walk-fits (child k b st fields more) columns a s u p q r =
+    let one : After u s s₁ = walk_fits items (all (first_column columns)) a s u p q r in
+    then_after u s s₁ (walk more (other_columns columns) a s₁) one
+    (walk_fits more (other_columns columns) a s₁ one.vars
+    (fits_more u one.vars (length s.scopes) (length s₁.scopes) a.outside one.more one.agree p) (fits_more u one.vars (length s.scopes) (length s₁.scopes) a.inside one.more one.agree q) one.placed)
+walk_fits (child k b st fields more) columns a s u p q r =
     let here : Setting = at_field (first_column columns) a in
     let around : Around = enter (row k) (hide k fields) here s in
     let s₁ : Seen = met (row k).opens b here around.inside.scope s in
     let s₂ : Seen = walk fields (each (row k).columns) around s₁ in
-    let h : Fits u (length s.scopes) here = field-fits (first_column columns) u (length s.scopes) a p q in
-    let m : Met u s s₁ around.inside = met-fits (row k).opens b here (strict_in (row k).strict here.strict (hide k fields)) u s h r in
-    let two : After m.after.vars s₁ s₂ = walk-fits fields (each (row k).columns) around s₁ m.after.vars
-    (fits-more u m.after.vars (length s.scopes) (length s₁.scopes) here m.after.more m.after.agree h) m.inside m.after.placed in
-    let both : After u s s₂ = then-after u s s₁ s₂ m.after two in
-    then-after u s s₂ (walk more (other_columns columns) a s₂) both
-    (walk-fits more (other_columns columns) a s₂ both.vars
-    (fits-more u both.vars (length s.scopes) (length s₂.scopes) a.outside both.more both.agree p) (fits-more u both.vars (length s.scopes) (length s₂.scopes) a.inside both.more both.agree q) both.placed)
+    let h : Fits u (length s.scopes) here = field_fits (first_column columns) u (length s.scopes) a p q in
+    let m : Met u s s₁ around.inside = met_fits (row k).opens b here (strict_in (row k).strict here.strict (hide k fields)) u s h r in
+    let two : After m.after.vars s₁ s₂ = walk_fits fields (each (row k).columns) around s₁ m.after.vars
+    (fits_more u m.after.vars (length s.scopes) (length s₁.scopes) here m.after.more m.after.agree h) m.inside m.after.placed in
+    let both : After u s s₂ = then_after u s s₁ s₂ m.after two in
+    then_after u s s₂ (walk more (other_columns columns) a s₂) both
+    (walk_fits more (other_columns columns) a s₂ both.vars
+    (fits_more u both.vars (length s.scopes) (length s₂.scopes) a.outside both.more both.agree p) (fits_more u both.vars (length s.scopes) (length s₂.scopes) a.inside both.more both.agree q) both.placed)
 
 abbrev Near : (ℕ → Bool) → Site → Type 0
 Near v q = nearest v q.setting.scope ≡ q.setting.var_scope
@@ -216,27 +178,27 @@ near_all : (t : Parts) → (v : ℕ → Bool) × AllOf (Near v) (sites t)
 unfolding all_open
 near_all t =
     let none : ℕ → Bool = λ k. false in
-    let a : After none nothing_yet (seen t) = walk-fits t (all unlisted) before_all nothing_yet none (record { below = tt; near = refl }) (record { below = tt; near = refl }) tt in
-    (a.vars, AllOf-reverse (Near a.vars) (seen t).sites (AllOf-map (λ q. Fits a.vars (length (seen t).scopes) q.setting) (Near a.vars) (λ q p. p.near) (seen t).sites a.placed))
+    let a : After none nothing_yet (seen t) = walk_fits t (all unlisted) before_all nothing_yet none (record { below = tt; near = refl }) (record { below = tt; near = refl }) tt in
+    (a.vars, AllOf_reverse (Near a.vars) (seen t).sites (AllOf_weaken (λ q. Fits a.vars (length (seen t).scopes) q.setting) (Near a.vars) (λ q p. p.near) (seen t).sites a.placed))
 
 -- what is found begins with a var scope
-heads : (v : ℕ → Bool) (x : Scope) (k : ℕ) (ks : Scope) → nearest v x ≡ k ∷ ks → v k ≡ true
+nearest_heads : (v : ℕ → Bool) (x : Scope) (k : ℕ) (ks : Scope) → nearest v x ≡ k ∷ ks → v k ≡ true
 unfolding all_open
-heads v [] k ks e = absurd (both_ways false refl (ap (λ (s : Scope). elim s [ [] ↦ false | n ∷ ns ↦ true ]) e))
-heads v (m ∷ ms) k ks e = go (v m) refl e (heads v ms k ks)
+nearest_heads v [] k ks e = absurd (both_ways false refl (ap (λ (s : Scope). elim s [ [] ↦ false | n ∷ ns ↦ true ]) e))
+nearest_heads v (m ∷ ms) k ks e = go (v m) refl e (nearest_heads v ms k ks)
   where
     go : (b : Bool) → v m ≡ b → cond b (m ∷ ms) (nearest v ms) ≡ k ∷ ks → (nearest v ms ≡ k ∷ ks → v k ≡ true) → v k ≡ true
     go true h q ih = subst (λ (n : ℕ). v n ≡ true) (ap (λ (s : Scope). elim s [ [] ↦ k | n ∷ ns ↦ n ]) q) h
     go false h q ih = ih q
 
-nearest-inside : (v : ℕ → Bool) (r s : Scope) → ((k : ℕ) (ks : Scope) → r ≡ k ∷ ks → v k ≡ true) → is_inside s r ≡ true → is_inside (nearest v s) r ≡ true
+nearest_lies_inside : (v : ℕ → Bool) (r s : Scope) → ((k : ℕ) (ks : Scope) → r ≡ k ∷ ks → v k ≡ true) → is_inside s r ≡ true → is_inside (nearest v s) r ≡ true
 unfolding all_open
-nearest-inside v r [] h i = i
-nearest-inside v r (k ∷ ks) h i = go (v k) refl i (or_cases _ _ i) (nearest-inside v r ks h)
+nearest_lies_inside v r [] h i = i
+nearest_lies_inside v r (k ∷ ks) h i = go (v k) refl i (or_cases _ _ i) (nearest_lies_inside v r ks h)
   where
     go : (b : Bool) → v k ≡ b → is_inside (k ∷ ks) r ≡ true → (same_scope (k ∷ ks) r ≡ true) ⊎ (is_inside ks r ≡ true) → (is_inside ks r ≡ true → is_inside (nearest v ks) r ≡ true) → is_inside (cond b (k ∷ ks) (nearest v ks)) r ≡ true
     go true q j o ih = j
-    go false q j (inl e) ih = absurd (both_ways _ q (h k ks (sym (same-eq (k ∷ ks) r e))))
+    go false q j (inl e) ih = absurd (both_ways _ q (h k ks (sym (same_scope_eq (k ∷ ks) r e))))
     go false q j (inr e) ih = ih e
 
 -- a place inside a var scope has its own var scope at or inside that
@@ -244,9 +206,9 @@ pub hoisted : (t : Parts) (p q : Site) → In p (sites t) → In q (sites t) →
 unfolding all_open
 hoisted t p q i j h =
     let n : (v : ℕ → Bool) × AllOf (Near v) (sites t) = near_all t in
-    let at : nearest n.0 q.setting.scope ≡ q.setting.var_scope = of-each (Near n.0) (sites t) q n.1 j in
-    subst (λ (s : Scope). is_inside s q.setting.var_scope ≡ true) (of-each (Near n.0) (sites t) p n.1 i)
-    (nearest-inside n.0 q.setting.var_scope p.setting.scope (λ k ks e. heads n.0 q.setting.scope k ks (at ∙ e)) h)
+    let at : nearest n.0 q.setting.scope ≡ q.setting.var_scope = of_each (Near n.0) (sites t) q n.1 j in
+    subst (λ (s : Scope). is_inside s q.setting.var_scope ≡ true) (of_each (Near n.0) (sites t) p n.1 i)
+    (nearest_lies_inside n.0 q.setting.var_scope p.setting.scope (λ k ks e. nearest_heads n.0 q.setting.scope k ks (at ∙ e)) h)
 
 -- ---- parameters and function-names
 
@@ -258,19 +220,12 @@ is_pinned _ = false
 abbrev pub Pinned : Setting → Type 0
 Pinned e = is_pinned e.role ≡ true → e.scope ≡ e.var_scope
 
-abbrev pins : Mode → Bool
-pins (Gives r) = is_pinned r
-pins (UnlessComputed i r) = is_pinned r
-pins (NamesExpression i j) = true
-pins _ = false
-
-abbrev pub hands_on : Mode → Bool
-hands_on Same = true
-hands_on Leaves = true
-hands_on _ = false
+is_pinned_narrow : IsNarrow is_pinned
+unfolding all_open
+is_pinned_narrow = record { plain = refl; read = refl; write = refl; read_write = refl; called = refl; variable = refl; lexical = refl; constant = refl; function = λ special. refl }
 
 abbrev column_fits : Opens → Column → Bool
-column_fits o c = (not (pins c.mode) || (c.inside && opens_var_scope o)) && (not (hands_on c.mode) || not c.inside)
+column_fits o c = (not (gives is_pinned c.mode) || (c.inside && opens_var_scope o)) && (not (hands_on c.mode) || not c.inside)
 
 abbrev along_fits : Opens → Along → Bool
 along_fits o (each cs) = list_all (column_fits o) cs
@@ -353,72 +308,32 @@ row_fits ExportSpecifier = refl
 row_fits ExportDefaultDeclaration = refl
 row_fits ExportAllDeclaration = refl
 
-pub no_role : {A : Type 0} → false ≡ true → A
-no_role h = absurd (both_ways false refl h)
-
-leaf_pinned : (r : Role) → is_pinned (elim r [ ReadWrite ↦ Write | r ↦ r ]) ≡ true → is_pinned r ≡ true
-leaf_pinned ReadWrite h = h
-leaf_pinned (Declares d) h = h
-leaf_pinned _ h = h
-
-either_role : (b : Bool) (r q : Role) → is_pinned r ≡ false → is_pinned (cond b r q) ≡ true → is_pinned q ≡ true
-either_role true r q n h = absurd (both_ways _ n h)
-either_role false r q n h = h
-
-declared_unpinned : (n : ℕ) → is_pinned (Declares (declared_by n)) ≡ false
-unfolding all_open
-declared_unpinned zero = refl
-declared_unpinned (suc zero) = refl
-declared_unpinned (suc (suc n)) = refl
-
-written_unpinned : (n : ℕ) → is_pinned (written_by n) ≡ false
-unfolding all_open
-written_unpinned zero = refl
-written_unpinned (suc n) = refl
-
-pinned-by : (m : Mode) (own : Role) (fields : Parts) → is_pinned (role_at m own fields) ≡ true → (pins m ≡ true) ⊎ ((hands_on m ≡ true) × (is_pinned own ≡ true))
-unfolding all_open
-pinned-by (Gives r) own fields h = inl h
-pinned-by Same own fields h = inr (refl, h)
-pinned-by Leaves own fields h = inr (refl, leaf_pinned own h)
-pinned-by (UnlessComputed i r) own fields h = inl (either_role (flag_of (part fields i)) Read r refl h)
-pinned-by (ByKind i) own fields h = absurd (both_ways _ (declared_unpinned (word_of (part fields i))) h)
-pinned-by (UnlessOptional i) own fields h = no_role (either_role (flag_of (part fields i)) Read Called refl h)
-pinned-by (ByOperator i) own fields h = absurd (both_ways _ (written_unpinned (word_of (part fields i))) h)
-pinned-by (UnlessSource i) own fields h = no_role (either_role (is_empty (part fields i)) Read Plain refl h)
-pinned-by (NamesFunction i j) own fields h = no_role h
-pinned-by (NamesExpression i j) own fields h = inl refl
-
 -- what a column that fits says
 or_says : (a b : Bool) → (not a || b) ≡ true → a ≡ true → b ≡ true
 or_says true b h e = h
 or_says false b h e = no_role e
 
-not_true : (b : Bool) → not b ≡ true → b ≡ false
-not_true true h = absurd (both_ways false refl h)
-not_true false h = refl
-
-side-pinned : (b : Bool) (a : Around) → b ≡ false → a.outside.scope ≡ a.outside.var_scope → (side b a).scope ≡ (side b a).var_scope
+side_pinned : (b : Bool) (a : Around) → b ≡ false → a.outside.scope ≡ a.outside.var_scope → (side b a).scope ≡ (side b a).var_scope
 unfolding all_open
-side-pinned true a n h = absurd (both_ways _ n refl)
-side-pinned false a n h = h
+side_pinned true a n h = absurd (both_ways _ n refl)
+side_pinned false a n h = h
 
-side-hoists : (b : Bool) (a : Around) → b ≡ true → a.inside.scope ≡ a.inside.var_scope → (side b a).scope ≡ (side b a).var_scope
+side_hoists : (b : Bool) (a : Around) → b ≡ true → a.inside.scope ≡ a.inside.var_scope → (side b a).scope ≡ (side b a).var_scope
 unfolding all_open
-side-hoists true a n h = h
-side-hoists false a n h = absurd (both_ways false refl n)
+side_hoists true a n h = h
+side_hoists false a n h = absurd (both_ways false refl n)
 
-field-pinned : (c : Column) (a : Around) (o : Opens) → column_fits o c ≡ true → (opens_var_scope o ≡ true → a.inside.scope ≡ a.inside.var_scope) → Pinned a.outside → Pinned (at_field c a)
+field_pinned : (c : Column) (a : Around) (o : Opens) → column_fits o c ≡ true → (opens_var_scope o ≡ true → a.inside.scope ≡ a.inside.var_scope) → Pinned a.outside → Pinned (at_field c a)
 unfolding all_open
-field-pinned c a o f i p h =
-    let two : ((not (pins c.mode) || (c.inside && opens_var_scope o)) ≡ true) × ((not (hands_on c.mode) || not c.inside) ≡ true) = and_parts _ _ f in
-    let role : is_pinned (role_at c.mode a.outside.role a.fields) ≡ true = subst (λ (r : Role). is_pinned r ≡ true) (mark-role c.mark _ _ _ _) h in
-    rw (mark-scope c.mark, mark-var c.mark) (go two (pinned-by c.mode a.outside.role a.fields role))
+field_pinned c a o f i p h =
+    let two : ((not (gives is_pinned c.mode) || (c.inside && opens_var_scope o)) ≡ true) × ((not (hands_on c.mode) || not c.inside) ≡ true) = and_parts _ _ f in
+    let role : is_pinned (role_at c.mode a.outside.role a.fields) ≡ true = subst (λ (r : Role). is_pinned r ≡ true) (mark_keeps_role c.mark _ _ _ _) h in
+    rw (mark_keeps_scope c.mark, mark_keeps_var_scope c.mark) (go two (given_by_field is_pinned is_pinned_narrow c.mode a.outside.role a.fields role))
   where
-    go : ((not (pins c.mode) || (c.inside && opens_var_scope o)) ≡ true) × ((not (hands_on c.mode) || not c.inside) ≡ true)
-        → (pins c.mode ≡ true) ⊎ ((hands_on c.mode ≡ true) × (is_pinned a.outside.role ≡ true)) → (side c.inside a).scope ≡ (side c.inside a).var_scope
-    go two (inl e) = let both : (c.inside ≡ true) × (opens_var_scope o ≡ true) = and_parts _ _ (or_says _ _ two.0 e) in side-hoists c.inside a both.0 (i both.1)
-    go two (inr e) = side-pinned c.inside a (not_true _ (or_says _ _ two.1 e.0)) (p e.1)
+    go : ((not (gives is_pinned c.mode) || (c.inside && opens_var_scope o)) ≡ true) × ((not (hands_on c.mode) || not c.inside) ≡ true)
+        → (gives is_pinned c.mode ≡ true) ⊎ ((hands_on c.mode ≡ true) × (is_pinned a.outside.role ≡ true)) → (side c.inside a).scope ≡ (side c.inside a).var_scope
+    go two (inl e) = let both : (c.inside ≡ true) × (opens_var_scope o ≡ true) = and_parts _ _ (or_says _ _ two.0 e) in side_hoists c.inside a both.0 (i both.1)
+    go two (inr e) = side_pinned c.inside a (not-true _ (or_says _ _ two.1 e.0)) (p e.1)
 
 first_fits : (o : Opens) (cs : Along) → along_fits o cs ≡ true → column_fits o (first_column cs) ≡ true
 unfolding all_open
@@ -432,40 +347,40 @@ others_fit o (each []) h = refl
 others_fit o (each (c ∷ cs)) h = (and_parts _ _ h).1
 others_fit o (all c) h = h
 
-opened-hoists : (o : Opens) (n c : ℕ) (e : Setting) → opens_var_scope o ≡ true → (opened o n c e).scope ≡ (opened o n c e).var_scope
+opened_hoists : (o : Opens) (n c : ℕ) (e : Setting) → opens_var_scope o ≡ true → (opened o n c e).scope ≡ (opened o n c e).var_scope
 unfolding all_open
-opened-hoists Hoisting n c e h = refl
-opened-hoists _ n c e h = no_role h
+opened_hoists Hoisting n c e h = refl
+opened_hoists _ n c e h = no_role h
 
 abbrev AllPinned : List Site → Type 0
 AllPinned ss = AllOf (λ q. Pinned q.setting) ss
 
-met-pinned : (o : Opens) (b : ℕ) (e : Setting) (inner : Scope) (s : Seen) → Pinned e → AllPinned s.sites → AllPinned (met o b e inner s).sites
+met_pinned : (o : Opens) (b : ℕ) (e : Setting) (inner : Scope) (s : Seen) → Pinned e → AllPinned s.sites → AllPinned (met o b e inner s).sites
 unfolding all_open
-met-pinned NameHere b e inner s h a = (h, a)
-met-pinned PrivateNameHere b e inner s h a = (h, a)
-met-pinned _ b e inner s h a = a
+met_pinned NameHere b e inner s h a = (h, a)
+met_pinned PrivateNameHere b e inner s h a = (h, a)
+met_pinned _ b e inner s h a = a
 
-walk-pinned : (x : Parts) (columns : Along) (a : Around) (s : Seen) (o : Opens) → along_fits o columns ≡ true → (opens_var_scope o ≡ true → a.inside.scope ≡ a.inside.var_scope) → Pinned a.outside
+walk_pinned : (x : Parts) (columns : Along) (a : Around) (s : Seen) (o : Opens) → along_fits o columns ≡ true → (opens_var_scope o ≡ true → a.inside.scope ≡ a.inside.var_scope) → Pinned a.outside
     → AllPinned s.sites → AllPinned (walk x columns a s).sites
 unfolding all_open
-walk-pinned done columns a s o f i p r = r
-walk-pinned (atom v more) columns a s o f i p r = walk-pinned more (other_columns columns) a s o (others_fit o columns f) i p r
-walk-pinned (many items more) columns a s o f i p r =
-    walk-pinned more (other_columns columns) a (walk items (all (first_column columns)) a s) o (others_fit o columns f) i p
-    (walk-pinned items (all (first_column columns)) a s o (first_fits o columns f) i p r)
-walk-pinned (child k b st fields more) columns a s o f i p r =
+walk_pinned done columns a s o f i p r = r
+walk_pinned (atom v more) columns a s o f i p r = walk_pinned more (other_columns columns) a s o (others_fit o columns f) i p r
+walk_pinned (many items more) columns a s o f i p r =
+    walk_pinned more (other_columns columns) a (walk items (all (first_column columns)) a s) o (others_fit o columns f) i p
+    (walk_pinned items (all (first_column columns)) a s o (first_fits o columns f) i p r)
+walk_pinned (child k b st fields more) columns a s o f i p r =
     let here : Setting = at_field (first_column columns) a in
     let around : Around = enter (row k) (hide k fields) here s in
     let s₁ : Seen = met (row k).opens b here around.inside.scope s in
-    let h : Pinned here = field-pinned (first_column columns) a o (first_fits o columns f) i p in
-    walk-pinned more (other_columns columns) a (walk fields (each (row k).columns) around s₁) o (others_fit o columns f) i p
-    (walk-pinned fields (each (row k).columns) around s₁ (row k).opens (row_fits k)
-    (opened-hoists (row k).opens (length s.scopes) s.classes (record here { strict = strict_in (row k).strict here.strict (hide k fields) })) h
-    (met-pinned (row k).opens b here around.inside.scope s h r))
+    let h : Pinned here = field_pinned (first_column columns) a o (first_fits o columns f) i p in
+    walk_pinned more (other_columns columns) a (walk fields (each (row k).columns) around s₁) o (others_fit o columns f) i p
+    (walk_pinned fields (each (row k).columns) around s₁ (row k).opens (row_fits k)
+    (opened_hoists (row k).opens (length s.scopes) s.classes (record here { strict = strict_in (row k).strict here.strict (hide k fields) })) h
+    (met_pinned (row k).opens b here around.inside.scope s h r))
 
 -- a parameter or function-name stands in a var scope
 pub pinned : (t : Parts) (q : Site) → In q (sites t) → Pinned q.setting
 unfolding all_open
-pinned t q i = of-each (λ x. Pinned x.setting) (sites t) q (AllOf-reverse (λ x. Pinned x.setting) (seen t).sites
-    (walk-pinned t (all unlisted) before_all nothing_yet Nothing refl (λ h. no_role h) (λ h. no_role h) tt)) i
+pinned t q i = of_each (λ x. Pinned x.setting) (sites t) q (AllOf_reverse (λ x. Pinned x.setting) (seen t).sites
+    (walk_pinned t (all unlisted) before_all nothing_yet Nothing refl (λ h. no_role h) (λ h. no_role h) tt)) i

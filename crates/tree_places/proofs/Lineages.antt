@@ -2,7 +2,9 @@
 use Rattle.std.specs.Prelude.{◌≡◌, ℕ, suc, ◌+◌, ◌<◌, ◌≤◌, Bool, true, false, cond, nat_lt, List, [], ◌∷◌, ◌++◌, length, map, reverse}
 use Rattle.std.proofs.Common.{refl, sym, ap, ◌∙◌, arith}
 use Rattle.std.proofs.lemmas.Grind.{reverse_onto}
-use Rattle.std.proofs.lemmas.List.{length-append, append_assoc, append-nil, map-append, reverse-reverse}
+use Rattle.std.proofs.lemmas.List.{length-append, append_assoc, append-nil, reverse-reverse}
+use Rattle.list_laws.proofs.AllOf.{AllOf, AllOf_append, AllOf_weaken}
+use Rattle.list_laws.proofs.Mapped.{map_reverse}
 use Rattle.tree_nodes.specs.Along.{Along, all, each, first_column, other_columns}
 use Rattle.tree_nodes.specs.Table.{Column, row, unlisted}
 use Rattle.tree_nodes.specs.Tree.{Parts, atom, child, done, many}
@@ -10,23 +12,13 @@ use Rattle.tree_nodes.specs.declared.table.Mark.{Mark}
 use Rattle.tree_nodes.specs.declared.table.Mark.TheVariants.{Body, Usual}
 use Rattle.tree_nodes.specs.declared.table.Opens.{Opens}
 use Rattle.tree_nodes.specs.declared.table.Opens.TheVariants.{BareBlock, Block, ClassMembers, Hoisting, NameHere, Nothing, PrivateNameHere, WithBody}
+use Rattle.tree_places.proofs.MarkedSettings.{mark_keeps_scope, mark_keeps_var_scope}
 use Rattle.tree_places.specs.Lineage.{Found, Line, Lineage, ancestor, at_side, count_nodes, found, found_by, is_bare, lines, lines_of, openers, openers_of, opens_scope, scope_by, scope_number, var_scope_by}
 use Rattle.tree_places.specs.Open.{all_open}
 use Rattle.tree_places.specs.Places.{Around, Seen, Setting, at_field, before_all, enter, hide, is_place, met, nothing_yet, opened, seen, side, sites, strict_in, walk, with_mark}
 use Rattle.tree_places.specs.Scopes.{Scope}
-use Rattle.tree_places.proofs.Runs.{AllOf}
 
 -- ---- how many of the opening nodes come before a node
-
-AllOf-append : {X : Type 0} (P : X → Type 0) (xs ys : List X) → AllOf P xs → AllOf P ys → AllOf P (xs ++ ys)
-unfolding all_open
-AllOf-append P [] ys a b = b
-AllOf-append P (x ∷ xs) ys a b = (a.0, AllOf-append P xs ys a.1 b)
-
-AllOf-map : {X : Type 0} (P Q : X → Type 0) → ((x : X) → P x → Q x) → (xs : List X) → AllOf P xs → AllOf Q xs
-unfolding all_open
-AllOf-map P Q f [] a = tt
-AllOf-map P Q f (x ∷ xs) a = (f x a.0, AllOf-map P Q f xs a.1)
 
 abbrev Below : ℕ → List ℕ → Type 0
 Below n xs = AllOf (λ m. m < n) xs
@@ -34,56 +26,56 @@ Below n xs = AllOf (λ m. m < n) xs
 abbrev From : ℕ → List ℕ → Type 0
 From n xs = AllOf (λ m. n ≤ m) xs
 
-below-counted : (n : ℕ) (xs ys : List ℕ) → Below n xs → From n ys → scope_number (xs ++ ys) n ≡ length xs
+below_counted : (n : ℕ) (xs ys : List ℕ) → Below n xs → From n ys → scope_number (xs ++ ys) n ≡ length xs
 unfolding all_open
-below-counted n [] [] a b = refl
-below-counted n [] (y ∷ ys) a b = rw (no y b.0) (below-counted n [] ys tt b.1)
+below_counted n [] [] a b = refl
+below_counted n [] (y ∷ ys) a b = rw (no y b.0) (below_counted n [] ys tt b.1)
   where
     no : (m : ℕ) → n ≤ m → nat_lt m n ≡ false
     no m h = grind (arith, h)
-below-counted n (x ∷ xs) ys a b = rw (yes x a.0) (ap suc (below-counted n xs ys a.1 b))
+below_counted n (x ∷ xs) ys a b = rw (yes x a.0) (ap suc (below_counted n xs ys a.1 b))
   where
     yes : (m : ℕ) → m < n → nat_lt m n ≡ true
     yes m h = grind (arith, h)
 
 -- the numbers of the opening nodes of a run lie between the nodes before it and after
-openers-from : (x : Parts) (columns : Along) (n : ℕ) → From n (openers x columns n)
+openers_from : (x : Parts) (columns : Along) (n : ℕ) → From n (openers x columns n)
 unfolding all_open
-openers-from done columns n = tt
-openers-from (atom v more) columns n = openers-from more (other_columns columns) n
-openers-from (many items more) columns n =
-    AllOf-append (λ m. n ≤ m) (openers items (all (first_column columns)) n) (openers more (other_columns columns) (count_nodes items + n))
-    (openers-from items (all (first_column columns)) n)
-    (AllOf-map (λ m. count_nodes items + n ≤ m) (λ m. n ≤ m) (λ m h. omega (arith, h)) (openers more (other_columns columns) (count_nodes items + n)) (openers-from more (other_columns columns) (count_nodes items + n)))
-openers-from (child k s e fields more) columns n =
+openers_from done columns n = tt
+openers_from (atom v more) columns n = openers_from more (other_columns columns) n
+openers_from (many items more) columns n =
+    AllOf_append (λ m. n ≤ m) (openers items (all (first_column columns)) n) (openers more (other_columns columns) (count_nodes items + n))
+    (openers_from items (all (first_column columns)) n)
+    (AllOf_weaken (λ m. count_nodes items + n ≤ m) (λ m. n ≤ m) (λ m h. omega (arith, h)) (openers more (other_columns columns) (count_nodes items + n)) (openers_from more (other_columns columns) (count_nodes items + n)))
+openers_from (child k s e fields more) columns n =
     let fs : List ℕ = openers fields (each (row k).columns) (suc n) in
     let ms : List ℕ = openers more (other_columns columns) (suc (count_nodes fields) + n) in
     go (opens_scope (row k).opens (is_bare (first_column columns).mark))
-    (AllOf-append (λ m. n ≤ m) fs ms
-    (AllOf-map (λ m. suc n ≤ m) (λ m. n ≤ m) (λ m h. omega (arith, h)) fs (openers-from fields (each (row k).columns) (suc n)))
-    (AllOf-map (λ m. suc (count_nodes fields) + n ≤ m) (λ m. n ≤ m) (λ m h. omega (arith, h)) ms (openers-from more (other_columns columns) (suc (count_nodes fields) + n))))
+    (AllOf_append (λ m. n ≤ m) fs ms
+    (AllOf_weaken (λ m. suc n ≤ m) (λ m. n ≤ m) (λ m h. omega (arith, h)) fs (openers_from fields (each (row k).columns) (suc n)))
+    (AllOf_weaken (λ m. suc (count_nodes fields) + n ≤ m) (λ m. n ≤ m) (λ m h. omega (arith, h)) ms (openers_from more (other_columns columns) (suc (count_nodes fields) + n))))
   where
     go : (b : Bool) → From n (openers fields (each (row k).columns) (suc n) ++ openers more (other_columns columns) (suc (count_nodes fields) + n))
         → From n (cond b (n ∷ []) [] ++ (openers fields (each (row k).columns) (suc n) ++ openers more (other_columns columns) (suc (count_nodes fields) + n)))
     go true a = (omega arith, a)
     go false a = a
 
-openers-below : (x : Parts) (columns : Along) (n : ℕ) → Below (count_nodes x + n) (openers x columns n)
+openers_below : (x : Parts) (columns : Along) (n : ℕ) → Below (count_nodes x + n) (openers x columns n)
 unfolding all_open
-openers-below done columns n = tt
-openers-below (atom v more) columns n = openers-below more (other_columns columns) n
-openers-below (many items more) columns n =
-    AllOf-append (λ m. m < (count_nodes items + count_nodes more) + n) (openers items (all (first_column columns)) n) (openers more (other_columns columns) (count_nodes items + n))
-    (AllOf-map (λ m. m < count_nodes items + n) (λ m. m < (count_nodes items + count_nodes more) + n) (λ m h. omega (arith, h)) (openers items (all (first_column columns)) n) (openers-below items (all (first_column columns)) n))
-    (AllOf-map (λ m. m < count_nodes more + (count_nodes items + n)) (λ m. m < (count_nodes items + count_nodes more) + n) (λ m h. omega (arith, h)) (openers more (other_columns columns) (count_nodes items + n)) (openers-below more (other_columns columns) (count_nodes items + n)))
-openers-below (child k s e fields more) columns n =
+openers_below done columns n = tt
+openers_below (atom v more) columns n = openers_below more (other_columns columns) n
+openers_below (many items more) columns n =
+    AllOf_append (λ m. m < (count_nodes items + count_nodes more) + n) (openers items (all (first_column columns)) n) (openers more (other_columns columns) (count_nodes items + n))
+    (AllOf_weaken (λ m. m < count_nodes items + n) (λ m. m < (count_nodes items + count_nodes more) + n) (λ m h. omega (arith, h)) (openers items (all (first_column columns)) n) (openers_below items (all (first_column columns)) n))
+    (AllOf_weaken (λ m. m < count_nodes more + (count_nodes items + n)) (λ m. m < (count_nodes items + count_nodes more) + n) (λ m h. omega (arith, h)) (openers more (other_columns columns) (count_nodes items + n)) (openers_below more (other_columns columns) (count_nodes items + n)))
+openers_below (child k s e fields more) columns n =
     let last : ℕ = suc (count_nodes fields + count_nodes more) + n in
     let fs : List ℕ = openers fields (each (row k).columns) (suc n) in
     let ms : List ℕ = openers more (other_columns columns) (suc (count_nodes fields) + n) in
     go (opens_scope (row k).opens (is_bare (first_column columns).mark))
-    (AllOf-append (λ m. m < last) fs ms
-    (AllOf-map (λ m. m < count_nodes fields + suc n) (λ m. m < last) (λ m h. omega (arith, h)) fs (openers-below fields (each (row k).columns) (suc n)))
-    (AllOf-map (λ m. m < count_nodes more + (suc (count_nodes fields) + n)) (λ m. m < last) (λ m h. omega (arith, h)) ms (openers-below more (other_columns columns) (suc (count_nodes fields) + n))))
+    (AllOf_append (λ m. m < last) fs ms
+    (AllOf_weaken (λ m. m < count_nodes fields + suc n) (λ m. m < last) (λ m h. omega (arith, h)) fs (openers_below fields (each (row k).columns) (suc n)))
+    (AllOf_weaken (λ m. m < count_nodes more + (suc (count_nodes fields) + n)) (λ m. m < last) (λ m h. omega (arith, h)) ms (openers_below more (other_columns columns) (suc (count_nodes fields) + n))))
   where
     go : (b : Bool) → Below (suc (count_nodes fields + count_nodes more) + n) (openers fields (each (row k).columns) (suc n) ++ openers more (other_columns columns) (suc (count_nodes fields) + n))
         → Below (suc (count_nodes fields + count_nodes more) + n) (cond b (n ∷ []) [] ++ (openers fields (each (row k).columns) (suc n) ++ openers more (other_columns columns) (suc (count_nodes fields) + n)))
@@ -96,66 +88,56 @@ pub record Fits (whole : List ℕ) (e : Setting) (l : Lineage) : Type 0 where
   pub scope : e.scope ≡ scope_by whole l
   pub var_scope : e.var_scope ≡ var_scope_by whole l
 
-mark-scope : (k : Mark) (fields : Parts) (n : ℕ) (o : List ℕ) (e : Setting) → (with_mark k fields n o e).scope ≡ e.scope
+mark_bare : (k : Mark) (fields : Parts) (n : ℕ) (o : List ℕ) (e : Setting) → e.bare ≡ false → (with_mark k fields n o e).bare ≡ is_bare k
 unfolding all_open
-mark-scope Usual fields n o e = refl
-mark-scope _ fields n o e = refl
+mark_bare Body fields n o e h = refl
+mark_bare Usual fields n o e h = h
+mark_bare _ fields n o e h = h
 
-mark-var : (k : Mark) (fields : Parts) (n : ℕ) (o : List ℕ) (e : Setting) → (with_mark k fields n o e).var_scope ≡ e.var_scope
+side_fits : (b : Bool) (whole : List ℕ) (a : Around) (outer inner : Lineage) → Fits whole a.outside outer → Fits whole a.inside inner → Fits whole (side b a) (at_side b outer inner)
 unfolding all_open
-mark-var Usual fields n o e = refl
-mark-var _ fields n o e = refl
+side_fits true whole a outer inner f g = g
+side_fits false whole a outer inner f g = f
 
-mark-bare : (k : Mark) (fields : Parts) (n : ℕ) (o : List ℕ) (e : Setting) → e.bare ≡ false → (with_mark k fields n o e).bare ≡ is_bare k
+field_fits : (f : Column) (whole : List ℕ) (a : Around) (outer inner : Lineage) → Fits whole a.outside outer → Fits whole a.inside inner → Fits whole (at_field f a) (at_side f.inside outer inner)
 unfolding all_open
-mark-bare Body fields n o e h = refl
-mark-bare Usual fields n o e h = h
-mark-bare _ fields n o e h = h
+field_fits f whole a outer inner p q =
+    let s : Fits whole (side f.inside a) (at_side f.inside outer inner) = side_fits f.inside whole a outer inner p q in
+    record { scope = rw (mark_keeps_scope f.mark) s.scope; var_scope = rw (mark_keeps_var_scope f.mark) s.var_scope }
 
-side-fits : (b : Bool) (whole : List ℕ) (a : Around) (outer inner : Lineage) → Fits whole a.outside outer → Fits whole a.inside inner → Fits whole (side b a) (at_side b outer inner)
+field_bare : (f : Column) (a : Around) → (at_field f a).bare ≡ is_bare f.mark
 unfolding all_open
-side-fits true whole a outer inner f g = g
-side-fits false whole a outer inner f g = f
+field_bare f a = mark_bare f.mark a.fields _ _ _ refl
 
-field-fits : (f : Column) (whole : List ℕ) (a : Around) (outer inner : Lineage) → Fits whole a.outside outer → Fits whole a.inside inner → Fits whole (at_field f a) (at_side f.inside outer inner)
+outer_fits : (o : Opens) (bare : Bool) (n : ℕ) (whole : List ℕ) (e : Setting) (l : Lineage) → Fits whole e l → Fits whole e (ancestor n o bare false ∷ l)
 unfolding all_open
-field-fits f whole a outer inner p q =
-    let s : Fits whole (side f.inside a) (at_side f.inside outer inner) = side-fits f.inside whole a outer inner p q in
-    record { scope = rw (mark-scope f.mark) s.scope; var_scope = rw (mark-var f.mark) s.var_scope }
-
-field-bare : (f : Column) (a : Around) → (at_field f a).bare ≡ is_bare f.mark
-unfolding all_open
-field-bare f a = mark-bare f.mark a.fields _ _ _ refl
-
-outer-fits : (o : Opens) (bare : Bool) (n : ℕ) (whole : List ℕ) (e : Setting) (l : Lineage) → Fits whole e l → Fits whole e (ancestor n o bare false ∷ l)
-unfolding all_open
-outer-fits Block bare n whole e l f = record { scope = f.scope; var_scope = f.var_scope }
-outer-fits WithBody bare n whole e l f = record { scope = f.scope; var_scope = f.var_scope }
-outer-fits Hoisting bare n whole e l f = record { scope = f.scope; var_scope = f.var_scope }
-outer-fits BareBlock true n whole e l f = record { scope = f.scope; var_scope = f.var_scope }
-outer-fits BareBlock false n whole e l f = record { scope = f.scope; var_scope = f.var_scope }
-outer-fits _ bare n whole e l f = record { scope = f.scope; var_scope = f.var_scope }
+outer_fits Block bare n whole e l f = record { scope = f.scope; var_scope = f.var_scope }
+outer_fits WithBody bare n whole e l f = record { scope = f.scope; var_scope = f.var_scope }
+outer_fits Hoisting bare n whole e l f = record { scope = f.scope; var_scope = f.var_scope }
+outer_fits BareBlock true n whole e l f = record { scope = f.scope; var_scope = f.var_scope }
+outer_fits BareBlock false n whole e l f = record { scope = f.scope; var_scope = f.var_scope }
+outer_fits _ bare n whole e l f = record { scope = f.scope; var_scope = f.var_scope }
 
 -- the setting e, and the same with strict code, as it is where the node opens the scope that comes next
-inner-fits : (o : Opens) (bare strict : Bool) (b c n : ℕ) (whole : List ℕ) (e : Setting) (l : Lineage) → e.bare ≡ bare → scope_number whole n ≡ b → Fits whole e l
+inner_fits : (o : Opens) (bare strict : Bool) (b c n : ℕ) (whole : List ℕ) (e : Setting) (l : Lineage) → e.bare ≡ bare → scope_number whole n ≡ b → Fits whole e l
     → Fits whole (opened o b c (record e { strict = strict })) (ancestor n o bare true ∷ l)
 unfolding all_open
-inner-fits Nothing bare strict b c n whole e l h q f = record { scope = f.scope; var_scope = f.var_scope }
-inner-fits Block bare strict b c n whole e l h q f = record { scope = rw (q, f.scope) refl; var_scope = f.var_scope }
-inner-fits WithBody bare strict b c n whole e l h q f = record { scope = rw (q, f.scope) refl; var_scope = f.var_scope }
-inner-fits Hoisting bare strict b c n whole e l h q f = record { scope = rw (q, f.scope) refl; var_scope = rw (q, f.scope) refl }
-inner-fits ClassMembers bare strict b c n whole e l h q f = record { scope = f.scope; var_scope = f.var_scope }
-inner-fits NameHere bare strict b c n whole e l h q f = record { scope = f.scope; var_scope = f.var_scope }
-inner-fits PrivateNameHere bare strict b c n whole e l h q f = record { scope = f.scope; var_scope = f.var_scope }
-inner-fits BareBlock true strict b c n whole e l h q f = rw h (record { scope = f.scope; var_scope = f.var_scope })
-inner-fits BareBlock false strict b c n whole e l h q f = rw h (record { scope = rw (q, f.scope) refl; var_scope = f.var_scope })
+inner_fits Nothing bare strict b c n whole e l h q f = record { scope = f.scope; var_scope = f.var_scope }
+inner_fits Block bare strict b c n whole e l h q f = record { scope = rw (q, f.scope) refl; var_scope = f.var_scope }
+inner_fits WithBody bare strict b c n whole e l h q f = record { scope = rw (q, f.scope) refl; var_scope = f.var_scope }
+inner_fits Hoisting bare strict b c n whole e l h q f = record { scope = rw (q, f.scope) refl; var_scope = rw (q, f.scope) refl }
+inner_fits ClassMembers bare strict b c n whole e l h q f = record { scope = f.scope; var_scope = f.var_scope }
+inner_fits NameHere bare strict b c n whole e l h q f = record { scope = f.scope; var_scope = f.var_scope }
+inner_fits PrivateNameHere bare strict b c n whole e l h q f = record { scope = f.scope; var_scope = f.var_scope }
+inner_fits BareBlock true strict b c n whole e l h q f = rw h (record { scope = f.scope; var_scope = f.var_scope })
+inner_fits BareBlock false strict b c n whole e l h q f = rw h (record { scope = rw (q, f.scope) refl; var_scope = f.var_scope })
 
 -- ---- a node is met
 
-met-nodes : (o : Opens) (b : ℕ) (e : Setting) (inner : Scope) (s : Seen) → (met o b e inner s).nodes ≡ suc s.nodes
+met_nodes : (o : Opens) (b : ℕ) (e : Setting) (inner : Scope) (s : Seen) → (met o b e inner s).nodes ≡ suc s.nodes
 unfolding all_open
-met-nodes Nothing b e inner s = refl
-met-nodes _ b e inner s = refl
+met_nodes Nothing b e inner s = refl
+met_nodes _ b e inner s = refl
 
 -- the number of this node, if it opens a scope
 abbrev own_opener : Opens → Bool → ℕ → List ℕ
@@ -167,15 +149,15 @@ one_more before n m h = omega (arith, h, length-append before (n ∷ []))
 no_more : (before : List ℕ) (m : ℕ) → m ≡ length before → m ≡ length (before ++ [])
 no_more before m h = rw (append-nil before) h
 
-met-scopes : (o : Opens) (b : ℕ) (e : Setting) (inner : Scope) (s : Seen) (bare : Bool) (n : ℕ) (before : List ℕ) → e.bare ≡ bare → length s.scopes ≡ length before
+met_scopes : (o : Opens) (b : ℕ) (e : Setting) (inner : Scope) (s : Seen) (bare : Bool) (n : ℕ) (before : List ℕ) → e.bare ≡ bare → length s.scopes ≡ length before
     → length (met o b e inner s).scopes ≡ length (before ++ own_opener o bare n)
 unfolding all_open
-met-scopes Block b e inner s bare n before q h = one_more before n (length s.scopes) h
-met-scopes WithBody b e inner s bare n before q h = one_more before n (length s.scopes) h
-met-scopes Hoisting b e inner s bare n before q h = one_more before n (length s.scopes) h
-met-scopes BareBlock b e inner s true n before q h = rw q (no_more before (length s.scopes) h)
-met-scopes BareBlock b e inner s false n before q h = rw q (one_more before n (length s.scopes) h)
-met-scopes _ b e inner s bare n before q h = no_more before (length s.scopes) h
+met_scopes Block b e inner s bare n before q h = one_more before n (length s.scopes) h
+met_scopes WithBody b e inner s bare n before q h = one_more before n (length s.scopes) h
+met_scopes Hoisting b e inner s bare n before q h = one_more before n (length s.scopes) h
+met_scopes BareBlock b e inner s true n before q h = rw q (no_more before (length s.scopes) h)
+met_scopes BareBlock b e inner s false n before q h = rw q (one_more before n (length s.scopes) h)
+met_scopes _ b e inner s bare n before q h = no_more before (length s.scopes) h
 
 -- the last first, before others
 abbrev pub onto : {X : Type 0} → List X → List X → List X
@@ -191,26 +173,26 @@ found_same : (whole : List ℕ) (n b : ℕ) (private : Bool) (e : Setting) (l : 
 unfolding all_open
 found_same whole n b private e l m h f = rw (h, f.scope, f.var_scope) refl
 
-met-sites : (o : Opens) (b : ℕ) (e : Setting) (inner : Scope) (s : Seen) (n : ℕ) (whole : List ℕ) (l : Lineage) → s.nodes ≡ n → Fits whole e l
+met_sites : (o : Opens) (b : ℕ) (e : Setting) (inner : Scope) (s : Seen) (n : ℕ) (whole : List ℕ) (l : Lineage) → s.nodes ≡ n → Fits whole e l
     → map found (met o b e inner s).sites ≡ onto (map (found_by whole) (own_line o n l)) (map found s.sites)
 unfolding all_open
-met-sites NameHere b e inner s n whole l h f = ap (λ x. x ∷ map found s.sites) (found_same whole n b false e l s.nodes h f)
-met-sites PrivateNameHere b e inner s n whole l h f = ap (λ x. x ∷ map found s.sites) (found_same whole n b true e l s.nodes h f)
-met-sites _ b e inner s n whole l h f = refl
+met_sites NameHere b e inner s n whole l h f = ap (λ x. x ∷ map found s.sites) (found_same whole n b false e l s.nodes h f)
+met_sites PrivateNameHere b e inner s n whole l h f = ap (λ x. x ∷ map found s.sites) (found_same whole n b true e l s.nodes h f)
+met_sites _ b e inner s n whole l h f = refl
 
 -- ---- the walk
 
-onto-append : {X Y : Type 0} (f : X → Y) (xs ys : List X) (w : List Y) → onto (map f (xs ++ ys)) w ≡ onto (map f ys) (onto (map f xs) w)
-onto-append f [] ys w = refl
-onto-append f (x ∷ xs) ys w = onto-append f xs ys (f x ∷ w)
+onto_append : {X Y : Type 0} (f : X → Y) (xs ys : List X) (w : List Y) → onto (map f (xs ++ ys)) w ≡ onto (map f ys) (onto (map f xs) w)
+onto_append f [] ys w = refl
+onto_append f (x ∷ xs) ys w = onto_append f xs ys (f x ∷ w)
 
-Below-append : (n m : ℕ) (xs ys : List ℕ) → n ≤ m → Below n xs → Below m ys → Below m (xs ++ ys)
+Below_append : (n m : ℕ) (xs ys : List ℕ) → n ≤ m → Below n xs → Below m ys → Below m (xs ++ ys)
 unfolding all_open
-Below-append n m xs ys h a b = AllOf-append (λ k. k < m) xs ys (AllOf-map (λ k. k < n) (λ k. k < m) (λ k i. omega (arith, h, i)) xs a) b
+Below_append n m xs ys h a b = AllOf_append (λ k. k < m) xs ys (AllOf_weaken (λ k. k < n) (λ k. k < m) (λ k i. omega (arith, h, i)) xs a) b
 
-own-below : (o : Opens) (bare : Bool) (n : ℕ) → Below (suc n) (own_opener o bare n)
+own_below : (o : Opens) (bare : Bool) (n : ℕ) → Below (suc n) (own_opener o bare n)
 unfolding all_open
-own-below o bare n = go (opens_scope o bare)
+own_below o bare n = go (opens_scope o bare)
   where
     go : (b : Bool) → Below (suc n) (cond b (n ∷ []) [])
     go true = (omega arith, tt)
@@ -246,21 +228,21 @@ walked (many items more) columns a s outer inner n whole before after e b f at =
     let is : List ℕ = openers items c n in
     let ms : List ℕ = openers more (other_columns columns) m in
     let s₁ : Seen = walk items c a s in
-    let after₁ : From m (ms ++ after) = AllOf-append (λ k. m ≤ k) ms after (openers-from more (other_columns columns) m)
-    (AllOf-map (λ k. (count_nodes items + count_nodes more) + n ≤ k) (λ k. m ≤ k) (λ k h. omega (arith, h)) after f) in
+    let after₁ : From m (ms ++ after) = AllOf_append (λ k. m ≤ k) ms after (openers_from more (other_columns columns) m)
+    (AllOf_weaken (λ k. (count_nodes items + count_nodes more) + n ≤ k) (λ k. m ≤ k) (λ k h. omega (arith, h)) after f) in
     let one : After whole before m is (lines items c outer inner n) s s₁ =
     walked items c a s outer inner n whole before (ms ++ after) (e ∙ ap (λ xs. before ++ xs) (append_assoc is ms after)) b after₁ at in
     let two : After whole (before ++ is) (count_nodes more + m) ms (lines more (other_columns columns) outer inner m) s₁ (walk more (other_columns columns) a s₁) =
     walked more (other_columns columns) a s₁ outer inner m whole (before ++ is) after
     (e ∙ ap (λ xs. before ++ xs) (append_assoc is ms after) ∙ sym (append_assoc before is (ms ++ after)))
-    (Below-append n m before is (omega arith) b (openers-below items c n))
-    (AllOf-map (λ k. (count_nodes items + count_nodes more) + n ≤ k) (λ k. count_nodes more + m ≤ k) (λ k h. omega (arith, h)) after f)
+    (Below_append n m before is (omega arith) b (openers_below items c n))
+    (AllOf_weaken (λ k. (count_nodes items + count_nodes more) + n ≤ k) (λ k. count_nodes more + m ≤ k) (λ k h. omega (arith, h)) after f)
     (record { nodes = one.nodes; scopes = one.scopes; outside = at.outside; inside = at.inside }) in
     record {
       nodes = omega (arith, two.nodes);
       scopes = two.scopes ∙ ap length (append_assoc before is ms);
       sites = two.sites ∙ ap (onto (map (found_by whole) (lines more (other_columns columns) outer inner m))) one.sites
-          ∙ sym (onto-append (found_by whole) (lines items c outer inner n) (lines more (other_columns columns) outer inner m) (map found s.sites));
+          ∙ sym (onto_append (found_by whole) (lines items c outer inner n) (lines more (other_columns columns) outer inner m) (map found s.sites));
     }
 walked (child k st en fields more) columns a s outer inner n whole before after e b f at =
     let f₁ : Column = first_column columns in
@@ -280,52 +262,47 @@ walked (child k st en fields more) columns a s outer inner n whole before after 
     let lf : List Line = lines fields c outer₁ inner₁ (suc n) in
     let lm : List Line = lines more (other_columns columns) outer inner m in
     let s₂ : Seen = walk fields c around s₁ in
-    let fit : Fits whole here l = field-fits f₁ whole a outer inner at.outside at.inside in
+    let fit : Fits whole here l = field_fits f₁ whole a outer inner at.outside at.inside in
     let number : scope_number whole n ≡ length s.scopes =
     ap (λ w. scope_number w n) e
-    ∙ below-counted n before ((own ++ (fs ++ ms)) ++ after) b
-    (AllOf-append (λ k. n ≤ k) (own ++ (fs ++ ms)) after (openers-from (child k st en fields more) columns n)
-    (AllOf-map (λ k. suc (count_nodes fields + count_nodes more) + n ≤ k) (λ k. n ≤ k) (λ k h. omega (arith, h)) after f))
+    ∙ below_counted n before ((own ++ (fs ++ ms)) ++ after) b
+    (AllOf_append (λ k. n ≤ k) (own ++ (fs ++ ms)) after (openers_from (child k st en fields more) columns n)
+    (AllOf_weaken (λ k. suc (count_nodes fields + count_nodes more) + n ≤ k) (λ k. n ≤ k) (λ k h. omega (arith, h)) after f))
     ∙ sym at.scopes in
     let e₁ : whole ≡ (before ++ own) ++ (fs ++ (ms ++ after)) = e ∙ regroup before own fs ms after in
-    let b₁ : Below (suc n) (before ++ own) = Below-append n (suc n) before own (omega arith) b (own-below o bare n) in
+    let b₁ : Below (suc n) (before ++ own) = Below_append n (suc n) before own (omega arith) b (own_below o bare n) in
     let after₁ : From (count_nodes fields + suc n) (ms ++ after) =
-    AllOf-append (λ k. count_nodes fields + suc n ≤ k) ms after
-    (AllOf-map (λ k. m ≤ k) (λ k. count_nodes fields + suc n ≤ k) (λ k h. omega (arith, h)) ms (openers-from more (other_columns columns) m))
-    (AllOf-map (λ k. suc (count_nodes fields + count_nodes more) + n ≤ k) (λ k. count_nodes fields + suc n ≤ k) (λ k h. omega (arith, h)) after f) in
+    AllOf_append (λ k. count_nodes fields + suc n ≤ k) ms after
+    (AllOf_weaken (λ k. m ≤ k) (λ k. count_nodes fields + suc n ≤ k) (λ k h. omega (arith, h)) ms (openers_from more (other_columns columns) m))
+    (AllOf_weaken (λ k. suc (count_nodes fields + count_nodes more) + n ≤ k) (λ k. count_nodes fields + suc n ≤ k) (λ k h. omega (arith, h)) after f) in
     let one : After whole (before ++ own) (count_nodes fields + suc n) fs lf s₁ s₂ =
     walked fields c around s₁ outer₁ inner₁ (suc n) whole (before ++ own) (ms ++ after) e₁ b₁ after₁
     (record {
-      nodes = met-nodes o st here around.inside.scope s ∙ ap suc at.nodes;
-      scopes = met-scopes o st here around.inside.scope s bare n before (field-bare f₁ a) at.scopes;
-      outside = outer-fits o bare n whole here l fit;
-      inside = inner-fits o bare (strict_in (row k).strict here.strict (hide k fields)) (length s.scopes) s.classes n whole here l (field-bare f₁ a) number fit;
+      nodes = met_nodes o st here around.inside.scope s ∙ ap suc at.nodes;
+      scopes = met_scopes o st here around.inside.scope s bare n before (field_bare f₁ a) at.scopes;
+      outside = outer_fits o bare n whole here l fit;
+      inside = inner_fits o bare (strict_in (row k).strict here.strict (hide k fields)) (length s.scopes) s.classes n whole here l (field_bare f₁ a) number fit;
     }) in
     let two : After whole ((before ++ own) ++ fs) (count_nodes more + m) ms lm s₂ (walk more (other_columns columns) a s₂) =
     walked more (other_columns columns) a s₂ outer inner m whole ((before ++ own) ++ fs) after
     (e₁ ∙ sym (append_assoc (before ++ own) fs (ms ++ after)))
-    (Below-append (suc n) m (before ++ own) fs (omega arith) b₁ (AllOf-map (λ k. k < count_nodes fields + suc n) (λ k. k < m) (λ k h. omega (arith, h)) fs (openers-below fields c (suc n))))
-    (AllOf-map (λ k. suc (count_nodes fields + count_nodes more) + n ≤ k) (λ k. count_nodes more + m ≤ k) (λ k h. omega (arith, h)) after f)
+    (Below_append (suc n) m (before ++ own) fs (omega arith) b₁ (AllOf_weaken (λ k. k < count_nodes fields + suc n) (λ k. k < m) (λ k h. omega (arith, h)) fs (openers_below fields c (suc n))))
+    (AllOf_weaken (λ k. suc (count_nodes fields + count_nodes more) + n ≤ k) (λ k. count_nodes more + m ≤ k) (λ k h. omega (arith, h)) after f)
     (record { nodes = omega (arith, one.nodes); scopes = one.scopes; outside = at.outside; inside = at.inside }) in
     record {
       nodes = omega (arith, two.nodes);
       scopes = two.scopes ∙ ap length (append_assoc (before ++ own) fs ms ∙ append_assoc before own (fs ++ ms));
       sites = two.sites
-          ∙ ap (onto (map (found_by whole) lm)) (one.sites ∙ ap (onto (map (found_by whole) lf)) (met-sites o st here around.inside.scope s n whole l at.nodes fit))
-          ∙ sym (onto-append (found_by whole) (own_line o n l) (lf ++ lm) (map found s.sites) ∙ onto-append (found_by whole) lf lm (onto (map (found_by whole) (own_line o n l)) (map found s.sites)));
+          ∙ ap (onto (map (found_by whole) lm)) (one.sites ∙ ap (onto (map (found_by whole) lf)) (met_sites o st here around.inside.scope s n whole l at.nodes fit))
+          ∙ sym (onto_append (found_by whole) (own_line o n l) (lf ++ lm) (map found s.sites) ∙ onto_append (found_by whole) lf lm (onto (map (found_by whole) (own_line o n l)) (map found s.sites)));
     }
 
 -- ---- a whole tree
 
-pub onto-reverse : {X : Type 0} (xs ys : List X) → onto xs ys ≡ reverse xs ++ ys
+pub onto_reverse : {X : Type 0} (xs ys : List X) → onto xs ys ≡ reverse xs ++ ys
 unfolding all_open
-onto-reverse [] ys = refl
-onto-reverse (x ∷ xs) ys = onto-reverse xs (x ∷ ys) ∙ sym (append_assoc (reverse xs) (x ∷ []) ys) ∙ ap (λ zs. zs ++ ys) (sym (reverse_onto xs x []))
-
-pub map-reverse : {X Y : Type 0} (f : X → Y) (xs : List X) → map f (reverse xs) ≡ reverse (map f xs)
-unfolding all_open
-map-reverse f [] = refl
-map-reverse f (x ∷ xs) = ap (map f) (reverse_onto xs x []) ∙ map-append f (reverse xs) (x ∷ []) ∙ ap (λ ys. ys ++ f x ∷ []) (map-reverse f xs) ∙ sym (reverse_onto (map f xs) (f x) [])
+onto_reverse [] ys = refl
+onto_reverse (x ∷ xs) ys = onto_reverse xs (x ∷ ys) ∙ sym (append_assoc (reverse xs) (x ∷ []) ys) ∙ ap (λ zs. zs ++ ys) (sym (reverse_onto xs x []))
 
 pub scopes_are_nearest : (t : Parts) → map found (sites t) ≡ map (found_by (openers_of t)) (lines_of t)
 unfolding all_open
@@ -336,4 +313,4 @@ scopes_are_nearest t =
     let all₁ : After os [] (count_nodes t + 0) os (lines_of t) nothing_yet (seen t) =
     walked t (all unlisted) before_all nothing_yet [] [] 0 os [] [] (sym (append-nil os)) tt tt
     (record { nodes = refl; scopes = refl; outside = fit; inside = record { scope = refl; var_scope = refl } }) in
-    map-reverse found (seen t).sites ∙ ap reverse (all₁.sites ∙ onto-reverse xs [] ∙ append-nil (reverse xs)) ∙ reverse-reverse xs
+    map_reverse found (seen t).sites ∙ ap reverse (all₁.sites ∙ onto_reverse xs [] ∙ append-nil (reverse xs)) ∙ reverse-reverse xs

@@ -1,6 +1,7 @@
 pub mod Scopes
 pub mod Places
 pub mod Renaming
+pub mod Chosen
 pub mod Lineage
 pub mod Laws
 pub mod Open

@@ -1,4 +1,4 @@
--- Scopes, and which lies inside which (own form; ECMA-262, Environment Records, has them as a chain of outer environments).
+-- Scopes, and which lies inside which (ECMA-262, Environment Records, has them as a chain of outer environments).
 use Rattle.std.specs.Prelude.{ℕ, Bool, false, not, ◌&&◌, ◌||◌, List, [], ◌∷◌, Option, Some, None, bytes_eq}
 
 -- a scope is the numbers of the scopes from itself outwards: its own number first, the root's last

@@ -1,5 +1,5 @@
-use Rattle.name_rules.proofs.Renamed as renamed
-use Rattle.name_rules.proofs.SlotNamed as slot_named
+use Rattle.name_rules.proofs.GivenNamesKeepBindings as renamed
+use Rattle.name_rules.proofs.GivenNamesFit as slot_named
 use Rattle.name_rules.proofs.laws.given_names_keep_bindings.Goals as goal
 
 pub returns-clause-fit : goal.returns-clause-fit

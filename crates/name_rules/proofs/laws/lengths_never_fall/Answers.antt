@@ -1,4 +1,4 @@
-use Rattle.name_rules.proofs.Numbered as numbered
+use Rattle.name_rules.proofs.ShortNumbers as numbered
 use Rattle.name_rules.proofs.laws.lengths_never_fall.Goals as goal
 
 pub returns : goal.returns

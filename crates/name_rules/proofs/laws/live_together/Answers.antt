@@ -1,4 +1,4 @@
-use Rattle.name_rules.proofs.Together as together
+use Rattle.name_rules.proofs.LiveTogether as together
 use Rattle.name_rules.proofs.laws.live_together.Goals as goal
 
 pub returns : goal.returns

@@ -1,4 +1,4 @@
-use Rattle.name_rules.proofs.Together as together
+use Rattle.name_rules.proofs.LiveTogether as together
 use Rattle.name_rules.proofs.laws.live_up_to_home.Goals as goal
 
 pub returns : goal.returns

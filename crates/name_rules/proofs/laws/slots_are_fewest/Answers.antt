@@ -1,4 +1,4 @@
-use Rattle.name_rules.proofs.Order as order
+use Rattle.name_rules.proofs.GroupsInOrder as order
 use Rattle.name_rules.proofs.laws.slots_are_fewest.Goals as goal
 
 pub returns-clause-fewest : goal.returns-clause-fewest

@@ -1,4 +1,4 @@
-use Rattle.name_rules.proofs.Order as order
+use Rattle.name_rules.proofs.GroupsInOrder as order
 use Rattle.name_rules.proofs.laws.slots_never_clash.Goals as goal
 
 pub returns : goal.returns

@@ -1,4 +1,4 @@
-use Rattle.scope_rules.proofs.Stay as stay
+use Rattle.scope_rules.proofs.BindingsStay as stay
 use Rattle.scope_rules.proofs.laws.bindings_stay.Goals as goal
 
 pub returns : goal.returns

@@ -1,4 +1,4 @@
-use Rattle.scope_rules.proofs.Faultless as faultless
+use Rattle.scope_rules.proofs.NoNewFaults as faultless
 use Rattle.scope_rules.proofs.laws.faults_are_never_new.Goals as goal
 
 pub returns : goal.returns

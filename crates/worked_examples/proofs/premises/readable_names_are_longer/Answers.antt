@@ -1,8 +1,8 @@
 use Rattle.std.specs.Prelude.{◌≡◌, codes}
 use Rattle.std.proofs.Common.{refl, sym, ◌∙◌, inl, inr}
+use Rattle.list_laws.proofs.Members.{In, in_from_Contains}
 use Rattle.name_rules.specs.Shortest.{changed_names}
 use Rattle.tree_nodes.specs.Tree.{Text}
-use Rattle.scope_rules.proofs.Lists.{In, in_from_Contains}
 use Rattle.worked_examples.proofs.premises.readable_names_are_longer.Goals as goal
 use Rattle.worked_examples.specs.Asked.{readably}
 use Rattle.worked_examples.specs.Blocks.{sibling_blocks}
