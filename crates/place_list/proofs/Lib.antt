@@ -1,0 +1,9 @@
+pub mod LeadingDirectives
+pub mod WalkSteps
+pub mod NumbersStand
+pub mod OuterComesFirst
+pub mod HiddenFields
+pub mod WalksAgree
+pub mod TablesStand
+pub mod OutwardWalks
+pub mod PlacesStand
