@@ -181,6 +181,12 @@ beside_is R g [] (b ∷ vs) f h = absurd h
 beside_is R g (a ∷ us) [] f h = absurd h
 beside_is {B = B} R g (a ∷ us) (b ∷ vs) f h = ap₂ (λ (y : B) (ys : List B). y ∷ ys) (f a b h.0) (beside_is R g us vs f h.1)
 
+pub beside_same : {A B C : Type 0} (R : A → B → Type 0) (g : A → C) (h : B → C) (xs : List A) (ys : List B) → ((x : A) (y : B) → R x y → g x ≡ h y) → Beside R xs ys → map g xs ≡ map h ys
+beside_same R g h [] [] f b = refl
+beside_same R g h [] (y ∷ vs) f b = absurd b
+beside_same R g h (x ∷ us) [] f b = absurd b
+beside_same {C = C} R g h (x ∷ us) (y ∷ vs) f b = ap₂ (λ (z : C) (zs : List C). z ∷ zs) (f x y b.0) (beside_same R g h us vs f b.1)
+
 pub beside_all : {A B : Type 0} (R : A → B → Type 0) (P : A → Type 0) (xs : List A) (ys : List B) → ((x : A) (y : B) → R x y → P x) → Beside R xs ys → AllByRecursion P xs
 beside_all R P [] [] f h = tt
 beside_all R P [] (b ∷ vs) f h = absurd h

@@ -3,7 +3,7 @@ use Rattle.std.proofs.Common.{◌≡◌, ◌<◌, ℕ, zero, suc, Bool, true, Li
 use Rattle.std.specs.List.{AllByRecursion}
 use Rattle.std.proofs.lemmas.List.{length-map}
 use Rattle.place_list.proofs.OutwardWalks.{same_is_number}
-use Rattle.place_list.specs.Bounds.{HasVarScope, IsBounded, IsKnown}
+use Rattle.place_list.specs.Bounds.{HasVarScope, IsBelow, IsBounded, IsKnown}
 use Rattle.place_list.specs.Outwards.{HaveVarScope, same_number}
 use Rattle.place_list.specs.TableViews.{entry_view, list_view, class_parents, lists_in, place_in, places_in, scope_at, scope_parents, var_scopes}
 use Rattle.place_list.specs.Tables.{Entry, place_of, setting_of, site_of}
@@ -40,6 +40,14 @@ parent_read l k x h e = mapped_at (λ (y : ScopeEntry). y.parent) l.scopes.items
 
 pub var_scope_read : (l : PlaceList) (k : ℕ) (x : ScopeEntry) → k < length l.scopes.items → x ≡ get_or l.scopes.items k x → slice_get (var_scopes l) k ≡ Some x.var_scope
 var_scope_read l k x h e = mapped_at (λ (y : ScopeEntry). y.var_scope) l.scopes.items k x (read_at l.scopes.items k x h e)
+
+below_same : (m n : ℕ) (o : Option ℕ) → m ≡ n → IsBelow m o → IsBelow n o
+below_same m n o e h = subst (λ (k : ℕ). IsBelow k o) e h
+
+pub var_scope_below : (l : PlaceList) → IsBounded (list_view l) → (k : ℕ) (x : ScopeEntry) → k < length l.scopes.items → x ≡ get_or l.scopes.items k x → IsBelow (length l.scopes.items) x.var_scope
+var_scope_below l bounded k x h e =
+    below_same (length (scope_parents l)) (length l.scopes.items) x.var_scope (many_scopes l)
+    (all_at (λ (y : ScopeEntry). IsBelow (length (scope_parents l)) y.var_scope) l.scopes.items k x bounded.var_scope_numbers (read_at l.scopes.items k x h e))
 
 pub class_read : (l : PlaceList) (k : ℕ) (x : ClassEntry) → k < length l.class_bodies.items → x ≡ get_or l.class_bodies.items k x → slice_get (class_parents l) k ≡ Some x.parent
 class_read l k x h e = mapped_at (λ (y : ClassEntry). y.parent) l.class_bodies.items k x (read_at l.class_bodies.items k x h e)

@@ -1,7 +1,10 @@
 -- The walk in tables, at one step of its loops.
-use Rattle.std.proofs.Common.{◌≡◌, ℕ, zero, suc, ◌+◌, true, List, [], ◌∷◌, drop, length, map, slice_get, Option, Some, None, Result, Ok, Err, IfOk, refl, sym, ap, ◌∙◌, arith}
+use Rattle.std.proofs.Common.{◌≡◌, ℕ, zero, suc, ◌+◌, Bool, true, List, [], ◌∷◌, drop, length, map, slice_get, Option, Some, None, Result, Ok, Err, IfOk, refl, sym, ap, ◌∙◌, arith}
 use Rattle.place_list.specs.Open.{all_open}
-use Rattle.place_list.specs.TableWalk.{Around, State, after_field, at_field, enter, inside_of, met, nothing_met, nowhere, tables_of, walk}
+use Rattle.place_list.specs.ScopeKinds.{scope_kind, value_scope}
+use Rattle.place_list.specs.TableWalk.{Around, State, after_field, at_field, enter, inside_of, listed_node, met, nothing_met, nowhere, put_scope, tables_of, walk}
+use Rattle.place_list.specs.declared.setting.ScopeKind.{ScopeKind}
+use Rattle.place_list.specs.declared.setting.ScopeKind.TheVariants as scope
 use Rattle.place_list.specs.declared.setting.Setting.{Setting}
 use Rattle.tree_nodes.specs.Along.{Along, all, each, first_column, other_columns}
 use Rattle.tree_nodes.specs.Look.{are_items, item_at, onto, part_at, past}
@@ -21,9 +24,7 @@ unfolding walk first_column other_columns
 onto_is c a done y s = refl
 onto_is c a (atom v x) y s = onto_is c a x y s
 onto_is c a (many items x) y s = onto_is c a x y (walk items (all c) a s)
-onto_is c a (child k b e fields x) y s =
-    onto_is c a x y
-    (walk fields (each (row k).columns) (enter (row k) fields (at_field c a (length s.heads)) (after_field c a s)) (met (row k).opens b (at_field c a (length s.heads)) (enter (row k) fields (at_field c a (length s.heads)) (after_field c a s)).inside.var_scope (text_of fields) (after_field c a s)))
+onto_is c a (child k b e fields x) y s = onto_is c a x y _
 
 -- the i-th part, with the first of the columns that are left
 at_part : (ps : Parts) (i : ℕ) (p : Parts) (cs : Along) (a : Around) (s : State) → part_at ps i ≡ Some p
@@ -71,19 +72,21 @@ module _ (c : Column) (a : Around) (ps : Parts) (i : ℕ) (start now : State) (s
   all_items_walked e = sym (so_far ∙ ap (λ x. walk x (all c) a now) e)
 
 -- the step at a node, where the last walk answers
-pub node_is : {X E : Type 0} (t : Tree) (c : Column) (a : Around) (s s₁ s₂ : State) (r : Row) (here inside : Setting)
+pub node_is : {X E : Type 0} (t : Tree) (c : Column) (a : Around) (s s₁ s₂ s₃ : State) (r : Row) (here inside : Setting) (v k : ScopeKind)
     → r ≡ row t.kind → here ≡ at_field c a (length s.heads) → s₁ ≡ after_field c a s → inside ≡ inside_of r.opens r.strict t.fields here s₁
-    → s₂ ≡ met r.opens t.start here inside.var_scope (text_of t.fields) s₁
-    → (result : Result X E) (new : X → State) → IfOk result (λ x. new x ≡ walk t.fields (each r.columns) (record { outside = here; inside = inside; fields = t.fields; number = s₁.nodes }) s₂)
+    → v ≡ value_scope t.kind t.fields → k ≡ scope_kind t.kind c a.value_scope
+    → s₂ ≡ listed_node a here t s₁ → s₃ ≡ met r.opens t.start here inside.var_scope (text_of t.fields) (put_scope r.opens k here inside s₂)
+    → (result : Result X E) (new : X → State)
+    → IfOk result (λ x. new x ≡ walk t.fields (each r.columns) (record { outside = here; inside = inside; fields = t.fields; number = s₁.nodes; value_scope = v }) s₃)
     → IfOk result (λ x. new x ≡ walk (alone t) (all c) a s)
 unfolding walk first_column enter
-node_is t c a s s₁ s₂ r here inside er eh e₁ ei e₂ (Ok x) new e₃ = rw (e₃, e₂, ei, e₁, eh, er) refl
-node_is t c a s s₁ s₂ r here inside er eh e₁ ei e₂ (Err x) new e₃ = tt
+node_is t c a s s₁ s₂ s₃ r here inside v k er eh e₁ ei ev ek e₂ e₃ (Ok x) new e = rw (e, e₃, e₂, ek, ev, ei, e₁, eh, er) refl
+node_is t c a s s₁ s₂ s₃ r here inside v k er eh e₁ ei ev ek e₂ e₃ (Err x) new e = tt
 
 -- at the root it doesn't matter in which node's fields it stands
-pub from_root : (t : Tree) (fields : Parts) → walk (alone t) (all unlisted) (record { outside = nowhere; inside = nowhere; fields = fields; number = 0 }) nothing_met ≡ tables_of (alone t)
+pub from_root : (b : Bool) (t : Tree) (fields : Parts) → walk (alone t) (all unlisted) (record { outside = nowhere; inside = nowhere; fields = fields; number = 0; value_scope = scope.Function }) (nothing_met b) ≡ tables_of b (alone t)
 unfolding all_open
-from_root t fields = refl
+from_root b t fields = refl
 
 pub found_column : (cs : List RustColumn) (i : ℕ) (c : RustColumn) → Some c ≡ slice_get cs i → column_of c ≡ first_column (each (drop i (map column_of cs)))
 unfolding first_column

@@ -7,15 +7,18 @@ use Rattle.place_list.proofs.NumbersStand.{Beside, Grows, Stands, beside_on, bes
 use Rattle.place_list.proofs.OuterComesFirst.{AreHeads, RiseFrom, head_joins, head_rises, heads_stay, line_below, line_rises, nothing_rises, parents}
 use Rattle.place_list.specs.Bounds.{HasVarScope}
 use Rattle.place_list.specs.Open.{all_open}
+use Rattle.place_list.specs.ScopeKinds.{scope_kind}
 use Rattle.place_list.specs.TableWalk as spec
 use Rattle.place_list.specs.TableWalk.{Around, State, lists_of, nothing_met, tables_of, value_from}
 use Rattle.place_list.specs.declared.tables.HeadEntry.{HeadEntry}
 use Rattle.place_list.specs.Tables.{Entry, head_lists, Lists, lineages, list_at, listed, setting_of, site_of, value_of}
+use Rattle.place_list.specs.declared.setting.ScopeKind.{ScopeKind}
 use Rattle.place_list.specs.declared.setting.Setting.{Setting}
 use Rattle.tree_nodes.specs.Along.{Along, all, each, first_column, other_columns}
 use Rattle.tree_nodes.specs.Roles.{role_at}
 use Rattle.tree_nodes.specs.Table.{Column, row, unlisted}
-use Rattle.tree_nodes.specs.Tree.{Parts, Text, atom, child, done, many, part, text_of}
+use Rattle.tree_nodes.specs.Tree.{Parts, Text, Tree, atom, child, done, many, part, text_of}
+use Rattle.tree_nodes.specs.declared.kind.Kind.{Kind}
 use Rattle.tree_nodes.specs.declared.table.Mark.{Mark}
 use Rattle.tree_nodes.specs.declared.table.Mark.TheVariants.{Body, Declarator, Exported, Head, Rest, Usual, Valued}
 use Rattle.tree_nodes.specs.declared.table.Mode.{Mode}
@@ -60,7 +63,7 @@ pub record AllGrow (d₁ d₂ : Lists) : Type 0 where
 all_grow_not : (d : Lists) → AllGrow d d
 all_grow_not d = record { scopes = grows_not d.scopes; class_bodies = grows_not d.class_bodies; heads = grows_not d.heads; var_scopes = grows_not d.var_scopes }
 
-all_grow_on : (a b c : Lists) → AllGrow a b → AllGrow b c → AllGrow a c
+pub all_grow_on : (a b c : Lists) → AllGrow a b → AllGrow b c → AllGrow a c
 all_grow_on a b c f g = record {
   scopes = grows_on a.scopes b.scopes c.scopes f.scopes g.scopes;
   class_bodies = grows_on a.class_bodies b.class_bodies c.class_bodies f.class_bodies g.class_bodies;
@@ -89,7 +92,7 @@ pub record AroundFits (d : Lists) (a : Around) (b : places.Around) : Type 0 wher
   pub inside : Fits d a.inside b.inside
   pub number : a.number ≡ b.number
 
-around_on : (c d : Lists) (a : Around) (b : places.Around) → AllGrow c d → AroundFits c a b → AroundFits d a b
+pub around_on : (c d : Lists) (a : Around) (b : places.Around) → AllGrow c d → AroundFits c a b → AroundFits d a b
 around_on c d a b g f = record { outside = fits_on c d a.outside b.outside g f.outside; inside = fits_on c d a.inside b.inside g f.inside; number = f.number }
 
 side_fits : (d : Lists) (a : Around) (b : places.Around) (inside : Bool) → AroundFits d a b → Fits d (spec.side inside a) (places.side inside b)
@@ -133,10 +136,10 @@ withs_on : (a b : List (List ℕ)) (ws : List (Option ℕ)) (ss : List Scope) �
 withs_on a b ws ss g h = beside_on (Stands a) (Stands b) ws ss (λ o xs f. stands_on a b o xs g f) h
 
 -- a state that is reached from another, and what holds at a place there
-record Reached (l m : State) (s : Seen) (e : Setting) (x : places.Setting) : Type 0 where
-  matches : Matches m s
-  grows : AllGrow (lists_of l) (lists_of m)
-  fits : Fits (lists_of m) e x
+pub record Reached (l m : State) (s : Seen) (e : Setting) (x : places.Setting) : Type 0 where
+  pub matches : Matches m s
+  pub grows : AllGrow (lists_of l) (lists_of m)
+  pub fits : Fits (lists_of m) e x
 
 -- a walk
 pub record Walked (l m : State) (s : Seen) : Type 0 where
@@ -552,6 +555,55 @@ met_step ClassMembers b e x name p q l s same f m = met_class l s e _ x _ m f (s
 met_step NameHere b e x name p q l s same f m = met_place false b name l s e _ x _ m f (strict_fits (lists_of l) e x p q same f)
 met_step PrivateNameHere b e x name p q l s same f m = met_place true b name l s e _ x _ m f (strict_fits (lists_of l) e x p q same f)
 
+-- ---- a node in its field
+
+abbrev pub here_at : Column → Around → State → Setting
+here_at c a l = spec.at_field c a (length l.heads)
+
+abbrev pub entered : Kind → Parts → Column → Around → State → Around
+entered k fields c a l = spec.enter k fields (here_at c a l) (spec.after_field c a l)
+
+abbrev pub noted : Tree → Column → Around → State → State
+noted t c a l = spec.put_scope (row t.kind).opens (scope_kind t.kind c a.value_scope) (here_at c a l) (entered t.kind t.fields c a l).inside (spec.listed_node a (here_at c a l) t (spec.after_field c a l))
+
+abbrev pub after_node : Tree → Column → Around → State → State
+after_node t c a l = spec.met (row t.kind).opens t.start (here_at c a l) (entered t.kind t.fields c a l).inside.var_scope (text_of t.fields) (noted t c a l)
+
+abbrev pub entered_there : Kind → Parts → Column → places.Around → Seen → places.Around
+entered_there k fields c b s = places.enter (row k) (hide k fields) (places.at_field c b) s
+
+abbrev pub met_there : Tree → Column → places.Around → Seen → Seen
+met_there t c b s = places.met (row t.kind).opens t.start (places.at_field c b) (entered_there t.kind t.fields c b s).inside.scope s
+
+pub record NodeReached (t : Tree) (c : Column) (a : Around) (b : places.Around) (l : State) (s : Seen) : Type 0 where
+  pub field : Reached l (spec.after_field c a l) s (here_at c a l) (places.at_field c b)
+  pub node : Reached (noted t c a l) (after_node t c a l) (met_there t c b s) (entered t.kind t.fields c a l).inside (entered_there t.kind t.fields c b s).inside
+  pub grows : AllGrow (lists_of l) (lists_of (after_node t c a l))
+  pub around : AroundFits (lists_of (after_node t c a l)) (entered t.kind t.fields c a l) (entered_there t.kind t.fields c b s)
+
+-- what is noted of a node changes nothing that matches
+noted_matches : (o : Opens) (k : ScopeKind) (e inner : Setting) (a : Around) (here : Setting) (t : Tree) (l : State) (s : Seen) → Matches l s → Matches (spec.put_scope o k e inner (spec.listed_node a here t l)) s
+unfolding all_open
+noted_matches o k e inner a here t l s m = record { nodes = m.nodes; scopes = m.scopes; class_bodies = m.class_bodies; sites = m.sites; withs = m.withs; both = m.both; rises = m.rises }
+
+pub node_step : (t : Tree) (c : Column) (a : Around) (b : places.Around) (l : State) (s : Seen) → Agree c a.fields b.fields → AroundFits (lists_of l) a b → Matches l s → NodeReached t c a b l s
+unfolding all_open
+node_step t c a b l s g af m =
+    let here : Setting = here_at c a l in
+    let there : places.Setting = places.at_field c b in
+    let l₁ : State = spec.after_field c a l in
+    let f : Reached l l₁ s here there = field_step c a b l s g af m in
+    let h : Reached (noted t c a l) (after_node t c a l) (met_there t c b s) (entered t.kind t.fields c a l).inside (entered_there t.kind t.fields c b s).inside =
+    met_step (row t.kind).opens t.start here there (text_of t.fields) (strict_in (row t.kind).strict here.strict t.fields) (strict_in (row t.kind).strict there.strict (hide t.kind t.fields)) (noted t c a l) s
+    (ap (λ (z : Bool). strict_in (row t.kind).strict z t.fields) f.fits.strict ∙ hidden_strict t.kind there.strict t.fields) f.fits
+    (noted_matches (row t.kind).opens (scope_kind t.kind c a.value_scope) here (entered t.kind t.fields c a l).inside a here t l₁ s f.matches) in
+    record {
+      field = f;
+      node = h;
+      grows = all_grow_on (lists_of l) (lists_of l₁) (lists_of (after_node t c a l)) f.grows h.grows;
+      around = record { outside = fits_on (lists_of l₁) (lists_of (after_node t c a l)) here there h.grows f.fits; inside = h.fits; number = f.matches.nodes };
+    }
+
 -- ---- the walk
 
 pub walk_follows : (ps : Parts) (columns : Along) (a : Around) (b : places.Around) (l : State) (s : Seen)
@@ -568,33 +620,35 @@ walk_follows (many items more) columns a b l s g af m =
     record { matches = v.matches; grows = all_grow_on (lists_of l) (lists_of l₁) _ w.grows v.grows }
 walk_follows (child k start stop fields more) columns a b l s g af m =
     let c : Column = first_column columns in
-    let here : Setting = spec.at_field c a (length l.heads) in
-    let there : places.Setting = places.at_field c b in
-    let l₁ : State = spec.after_field c a l in
-    let f : Reached l l₁ s here there = field_step c a b l s (first_agrees columns _ _ g) af m in
-    let around : Around = spec.enter (row k) fields here l₁ in
-    let beyond : places.Around = places.enter (row k) (hide k fields) there s in
-    let l₂ : State = spec.met (row k).opens start here around.inside.var_scope (text_of fields) l₁ in
-    let s₂ : Seen = places.met (row k).opens start there beyond.inside.scope s in
-    let h : Reached l₁ l₂ s₂ around.inside beyond.inside =
-    met_step (row k).opens start here there (text_of fields) (strict_in (row k).strict here.strict fields) (strict_in (row k).strict there.strict (hide k fields)) l₁ s
-    (ap (λ (z : Bool). strict_in (row k).strict z fields) f.fits.strict ∙ hidden_strict k there.strict fields) f.fits f.matches in
-    let l₃ : State = spec.walk fields (each (row k).columns) around l₂ in
-    let s₃ : Seen = places.walk fields (each (row k).columns) beyond s₂ in
-    let w : Walked l₂ l₃ s₃ =
-    walk_follows fields (each (row k).columns) around beyond l₂ s₂ (hidden_agrees k fields)
-    (record { outside = fits_on (lists_of l₁) (lists_of l₂) here there h.grows f.fits; inside = h.fits; number = f.matches.nodes }) h.matches in
-    let grown : AllGrow (lists_of l) (lists_of l₃) = all_grow_on (lists_of l) (lists_of l₁) (lists_of l₃) f.grows (all_grow_on (lists_of l₁) (lists_of l₂) (lists_of l₃) h.grows w.grows) in
+    let t : Tree = record { kind = k; start = start; stop = stop; fields = fields } in
+    let r : NodeReached t c a b l s = node_step t c a b l s (first_agrees columns _ _ g) af m in
+    let l₂ : State = after_node t c a l in
+    let s₂ : Seen = met_there t c b s in
+    let l₃ : State = spec.walk fields (each (row k).columns) (entered k fields c a l) l₂ in
+    let s₃ : Seen = places.walk fields (each (row k).columns) (entered_there k fields c b s) s₂ in
+    let w : Walked l₂ l₃ s₃ = walk_follows fields (each (row k).columns) (entered k fields c a l) (entered_there k fields c b s) l₂ s₂ (hidden_agrees k fields) r.around r.node.matches in
+    let grown : AllGrow (lists_of l) (lists_of l₃) = all_grow_on (lists_of l) (lists_of l₂) (lists_of l₃) r.grows w.grows in
     let v : Walked l₃ (spec.walk more (other_columns columns) a l₃) (places.walk more (other_columns columns) b s₃) =
     walk_follows more (other_columns columns) a b l₃ s₃ (others_agree columns _ _ g) (around_on (lists_of l) (lists_of l₃) a b grown af) w.matches in
     record { matches = v.matches; grows = all_grow_on (lists_of l) (lists_of l₃) _ grown v.grows }
 
-pub tables_match : (t : Parts) → Matches (tables_of t) (seen t)
+-- ---- from the root
+
+pub root_agrees : AlongAgrees (all unlisted) spec.before_all.fields places.before_all.fields
 unfolding all_open
-tables_match t =
-    (walk_follows t (all unlisted) spec.before_all places.before_all nothing_met places.nothing_yet (λ own. refl, tt)
-    (record { outside = nowhere_fits; inside = nowhere_fits; number = refl })
-    (record { nodes = refl; scopes = refl; class_bodies = refl; sites = tt; withs = tt; both = refl; rises = record { scopes = nothing_rises; class_bodies = nothing_rises; heads = nothing_rises; head_scopes = tt } })).matches
+root_agrees = (λ own. refl, tt)
+
+pub root_fits : (b : Bool) → AroundFits (lists_of (nothing_met b)) spec.before_all places.before_all
+unfolding all_open
+root_fits b = record { outside = nowhere_fits; inside = nowhere_fits; number = refl }
   where
-    nowhere_fits : Fits (lists_of nothing_met) spec.nowhere places.nowhere
+    nowhere_fits : Fits (lists_of (nothing_met b)) spec.nowhere places.nowhere
     nowhere_fits = record { role = refl; scope = refl; var_scope = refl; has_var_scope = refl; classes = refl; heads = refl; strict = refl; exported = refl; bare = refl; value = refl; pattern = refl; in_rest = refl }
+
+pub root_matches : (b : Bool) → Matches (nothing_met b) places.nothing_yet
+unfolding all_open
+root_matches b = record { nodes = refl; scopes = refl; class_bodies = refl; sites = tt; withs = tt; both = refl; rises = record { scopes = nothing_rises; class_bodies = nothing_rises; heads = nothing_rises; head_scopes = tt } }
+
+pub tables_match : (b : Bool) (t : Parts) → Matches (tables_of b t) (seen t)
+unfolding tables_of seen
+tables_match b t = (walk_follows t (all unlisted) spec.before_all places.before_all (nothing_met b) places.nothing_yet root_agrees (root_fits b) (root_matches b)).matches

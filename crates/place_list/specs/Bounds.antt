@@ -31,4 +31,5 @@ pub record IsBounded (s : State) : Type 0 where
   pub scopes : ComesBefore s.scopes
   pub class_bodies : ComesBefore s.class_bodies
   pub heads : ComesBefore (map (λ h. h.parent) s.heads)
+  pub var_scope_numbers : AllByRecursion (λ e. IsBelow (length s.scopes) e.var_scope) s.scope_entries
   pub head_scopes : AllByRecursion (λ h. h.scope < length s.scopes) s.heads

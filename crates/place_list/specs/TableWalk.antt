@@ -1,14 +1,19 @@
 -- The walk of a tree in tables: as the walk that gives its places, with numbers in place of scopes and of lists.
 use Rattle.std.specs.Prelude.{ℕ, suc, Bool, true, false, List, [], ◌∷◌, ◌++◌, length, Option, Some, None, if◌then◌else◌}
-use Rattle.place_list.specs.Tables.{Entry, Lists, head_lists, lineages}
+use Rattle.place_list.specs.ScopeKinds.{scope_kind, value_scope}
+use Rattle.place_list.specs.Tables.{Entry, Lists, NodeView, head_lists, lineages}
+use Rattle.place_list.specs.declared.setting.ScopeKind.{ScopeKind}
+use Rattle.place_list.specs.declared.setting.ScopeKind.TheVariants as scope
 use Rattle.place_list.specs.declared.setting.Setting.{Setting}
 use Rattle.place_list.specs.declared.setting.Value.{Value}
 use Rattle.place_list.specs.declared.setting.Value.TheVariants.{NoValue, OtherValue, AnonymousFunction, AnonymousClass}
 use Rattle.place_list.specs.declared.tables.HeadEntry.{HeadEntry}
+use Rattle.place_list.specs.declared.tables.ScopeEntry.{ScopeEntry}
 use Rattle.tree_nodes.specs.Along.{Along, all, each, first_column, other_columns}
 use Rattle.tree_nodes.specs.Roles.{role_at}
-use Rattle.tree_nodes.specs.Table.{Column, Row, row, unlisted}
-use Rattle.tree_nodes.specs.Tree.{Parts, Text, atom, child, done, many, part, text_of}
+use Rattle.tree_nodes.specs.Table.{Column, row, unlisted}
+use Rattle.tree_nodes.specs.Tree.{Parts, Text, Tree, atom, child, done, many, part, text_of}
+use Rattle.tree_nodes.specs.declared.kind.Kind.{Kind}
 use Rattle.tree_nodes.specs.declared.table.Mark.{Mark}
 use Rattle.tree_nodes.specs.declared.table.Mark.TheVariants.{Body, Declarator, Exported, Head, Rest, Usual, Valued}
 use Rattle.tree_nodes.specs.declared.table.Mode.{Mode}
@@ -17,10 +22,11 @@ use Rattle.tree_nodes.specs.declared.table.Opens.{Opens}
 use Rattle.tree_nodes.specs.declared.table.Opens.TheVariants.{BareBlock, Block, ClassMembers, Hoisting, NameHere, Nothing, PrivateNameHere, WithBody}
 use Rattle.tree_nodes.specs.declared.table.Role.TheVariants.{Plain}
 use Rattle.tree_nodes.specs.declared.table.Strict.{Strict}
+use Rattle.tree_places.specs.Lineage.{opens_scope}
 use Rattle.tree_places.specs.Places as places
 use Rattle.tree_places.specs.Places.{naming_value, strict_in}
 
--- what the walk has met: how many nodes, and the tables
+-- what the walk has met: how many nodes, and the tables; whether the nodes are to be listed too
 pub record State : Type 0 where
   pub nodes : ℕ
   pub scopes : List (Option ℕ)
@@ -29,20 +35,24 @@ pub record State : Type 0 where
   pub heads : List HeadEntry
   pub places : List Entry
   pub withs : List (Option ℕ)
+  pub scope_entries : List ScopeEntry
+  pub lists_nodes : Bool
+  pub node_entries : List NodeView
 
-unfoldable pub nothing_met : State
-nothing_met = record { nodes = 0; scopes = []; var_scopes = []; class_bodies = []; heads = []; places = []; withs = [] }
+unfoldable pub nothing_met : Bool → State
+nothing_met b = record { nodes = 0; scopes = []; var_scopes = []; class_bodies = []; heads = []; places = []; withs = []; scope_entries = []; lists_nodes = b; node_entries = [] }
 
 -- what the numbers in its tables stand for
 unfoldable pub lists_of : State → Lists
 lists_of s = record { scopes = lineages s.scopes; class_bodies = lineages s.class_bodies; heads = head_lists s.heads; var_scopes = s.var_scopes }
 
--- what holds around a node, and what holds in the scope that it opens
+-- what holds around a node, and what holds in the scope that it opens; and which scope a function that is its value opens
 pub record Around : Type 0 where
   pub outside : Setting
   pub inside : Setting
   pub fields : Parts
   pub number : ℕ
+  pub value_scope : ScopeKind
 
 unfoldable pub side : Bool → Around → Setting
 side true a = a.inside
@@ -108,8 +118,18 @@ opened PrivateNameHere n c e = e
 unfoldable pub inside_of : Opens → Strict → Parts → Setting → State → Setting
 inside_of o t fields e s = opened o (length s.scopes) (length s.class_bodies) (record e { strict = strict_in t e.strict fields })
 
-unfoldable pub enter : Row → Parts → Setting → State → Around
-enter r fields e s = record { outside = e; inside = inside_of r.opens r.strict fields e s; fields = fields; number = s.nodes }
+unfoldable pub enter : Kind → Parts → Setting → State → Around
+enter k fields e s = record { outside = e; inside = inside_of (row k).opens (row k).strict fields e s; fields = fields; number = s.nodes; value_scope = value_scope k fields }
+
+-- a node that stands in this field is listed, where nodes are
+unfoldable pub listed_node : Around → Setting → Tree → State → State
+listed_node a e t s = record s { node_entries = if s.lists_nodes then s.node_entries ++ record { tree = t; parent = a.number; scope = e.scope } ∷ [] else s.node_entries }
+
+-- the scope of a node of this kind in this field is put, where it opens one
+unfoldable pub put_scope : Opens → ScopeKind → Setting → Setting → State → State
+put_scope o k e inner s = record s {
+  scope_entries = if opens_scope o e.bare then s.scope_entries ++ record { parent = e.scope; var_scope = inner.var_scope; node = s.nodes; kind = k; strict = inner.strict } ∷ [] else s.scope_entries;
+}
 
 -- a node is met that opens this and starts at b, where e holds, with this var scope inside and this text in front
 unfoldable pub met : Opens → ℕ → Setting → Option ℕ → Text → State → State
@@ -131,15 +151,16 @@ walk (child k b e fields more) columns a s =
     let column : Column = first_column columns in
     let here : Setting = at_field column a (length s.heads) in
     let now : State = after_field column a s in
-    let around : Around = enter (row k) fields here now in
-    walk more (other_columns columns) a (walk fields (each (row k).columns) around (met (row k).opens b here around.inside.var_scope (text_of fields) now))
+    let around : Around = enter k fields here now in
+    let noted : State = put_scope (row k).opens (scope_kind k column a.value_scope) here around.inside (listed_node a here (record { kind = k; start = b; stop = e; fields = fields }) now) in
+    walk more (other_columns columns) a (walk fields (each (row k).columns) around (met (row k).opens b here around.inside.var_scope (text_of fields) noted))
 
 unfoldable pub nowhere : Setting
 nowhere = record { role = Plain; scope = None; var_scope = None; class_body = None; head = None; strict = false; exported = false; bare = false; value = NoValue; declarator = None; in_rest = false }
 
 unfoldable pub before_all : Around
-before_all = record { outside = nowhere; inside = nowhere; fields = done; number = 0 }
+before_all = record { outside = nowhere; inside = nowhere; fields = done; number = 0; value_scope = scope.Function }
 
--- all that the walk of a tree meets
-unfoldable pub tables_of : Parts → State
-tables_of t = walk t (all unlisted) before_all nothing_met
+-- all that the walk of a tree meets, with its nodes or without
+unfoldable pub tables_of : Bool → Parts → State
+tables_of b t = walk t (all unlisted) before_all (nothing_met b)

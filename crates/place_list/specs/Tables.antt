@@ -1,10 +1,12 @@
 -- What the numbers in the tables of a tree stand for: a scope's or a class body's number for the list of numbers from it outwards, a head's for the list of the scopes in whose heads it lies.
 use Rattle.std.specs.Prelude.{ℕ, Bool, List, [], ◌∷◌, ◌++◌, length, slice_get, Option, Some, None}
+use Rattle.place_list.specs.Nodes.{NestedNode, ScopeNode}
 use Rattle.place_list.specs.declared.setting.Setting.{Setting}
 use Rattle.place_list.specs.declared.setting.Value.{Value}
 use Rattle.place_list.specs.declared.setting.Value.TheVariants.{NoValue, OtherValue, AnonymousFunction, AnonymousClass}
 use Rattle.place_list.specs.declared.tables.HeadEntry.{HeadEntry}
-use Rattle.tree_nodes.specs.Tree.{Text}
+use Rattle.place_list.specs.declared.tables.ScopeEntry.{ScopeEntry}
+use Rattle.tree_nodes.specs.Tree.{Text, Tree}
 use Rattle.tree_places.specs.Places as places
 use Rattle.tree_places.specs.Places.{Place, Site}
 use Rattle.tree_places.specs.Scopes.{Scope}
@@ -79,3 +81,17 @@ site_of d e = record { node = e.node; start = e.start; private = e.private; sett
 
 unfoldable pub place_of : Lists → Entry → Place
 place_of d e = record { site = site_of d e; name = e.name }
+
+-- ---- scopes and nodes
+
+unfoldable pub scope_node_of : Lists → ScopeEntry → ScopeNode
+scope_node_of d e = record { var_scope = list_at d.scopes e.var_scope; node = e.node; kind = e.kind; strict = e.strict }
+
+-- a node, with the number of the node around it and of the scope in which it stands
+pub record NodeView : Type 0 where
+  pub tree : Tree
+  pub parent : ℕ
+  pub scope : Option ℕ
+
+unfoldable pub nested_node_of : Lists → NodeView → NestedNode
+nested_node_of d e = record { tree = e.tree; parent = e.parent; scope = list_at d.scopes e.scope }

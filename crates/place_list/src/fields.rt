@@ -8,7 +8,7 @@ ghost use Rattle.tree_nodes.specs.Tree.{alone, part};
 ghost use Rattle.tree_nodes.specs.Views.{part_of};
 ghost use Rattle.tree_places.specs.Places as places;
 
-use crate::setting::{Setting, Value};
+use crate::setting::{ScopeKind, Setting, Value};
 use tree_nodes::roles::{empty_at, role_at};
 use tree_nodes::{Column, Field, FieldList, Kind, Mark, Mode, Node, Opens};
 
@@ -20,6 +20,8 @@ pub(crate) struct Around<'t> {
     pub inside: Setting,
     pub fields: &'t FieldList,
     pub number: u32,
+    // Which scope a function that is its value opens.
+    pub value_scope: ScopeKind,
 }
 
 #[tactic(auto, unfolding(tree_places::specs::Places::naming_value, crate::specs::TableWalk::value_from))]

@@ -5,10 +5,10 @@ ghost use Rattle.std.specs.Prelude.{◌≡◌, ◌∷◌, ◌<◌, length, slice
 ghost use Rattle.place_list.specs.Bounds.{IsBelow, IsBounded, IsKnown};
 ghost use Rattle.place_list.specs.Outwards as spec;
 ghost use Rattle.place_list.specs.Outwards.{HaveVarScope};
-ghost use Rattle.place_list.specs.TableViews.{classes_at, heads_at, list_view, place_in, places_in, scope_at, scope_parents};
+ghost use Rattle.place_list.specs.TableViews.{classes_at, heads_at, list_view, nested_node_in, nested_nodes_in, place_in, places_in, scope_at, scope_node_in, scope_nodes_in};
 ghost use Rattle.tree_places.specs.Scopes as scopes;
 
-use crate::tables::{HeadEntry, PlaceEntry, PlaceList};
+use crate::tables::{HeadEntry, NodeEntry, PlaceEntry, PlaceList, ScopeEntry};
 
 /// Whether both numbers are the same, or both stand for what lies outside all scopes.
 #[tactic(auto, unfolding(crate::specs::Outwards::same_number))]
@@ -52,13 +52,30 @@ impl<'t> PlaceList<'t> {
         self.scopes[scope as usize].parent
     }
 
+    /// What is told of a scope: its var scope, the node that opens it, its kind, whether its code is strict.
+    pub fn scope(&self, scope: u32) -> ScopeEntry
+        requires scope { scope < length self.now.scopes.items }
+        ensures { slice_get (scope_nodes_in self.now) scope ≡ Some (scope_node_in self.now result) }
+    {
+        self.scopes[scope as usize]
+    }
+
     /// The nearest scope, from this one outwards, that a `var` may declare in.
     pub fn var_scope(&self, scope: u32) -> Option<u32>
         requires bounded { IsBounded (list_view self.now) }
         requires scope { scope < length self.now.scopes.items }
-        ensures { HaveVarScope self.now (Some scope) result }
+        ensures places { HaveVarScope self.now (Some scope) result }
+        ensures below { IsBelow (length self.now.scopes.items) result }
     {
         self.scopes[scope as usize].var_scope
+    }
+
+    /// A node that is listed, with the node around it and the scope in which it stands.
+    pub fn node(&self, node: u32) -> NodeEntry<'t>
+        requires node { node < length self.now.node_entries.items }
+        ensures { slice_get (nested_nodes_in self.now) node ≡ Some (nested_node_in self.now result) }
+    {
+        self.node_entries[node as usize]
     }
 
     /// The class body around a class body.

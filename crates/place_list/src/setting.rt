@@ -11,6 +11,23 @@ pub enum Value {
     AnonymousClass,
 }
 
+/// The construct of the language that a scope belongs to. The constructors, getters and setters are the
+/// functions that are the values of such members of a class or an object.
+#[derive(Clone, Copy)]
+pub enum ScopeKind {
+    TopLevel,
+    Function,
+    Constructor,
+    Getter,
+    Setter,
+    Arrow,
+    ClassStatic,
+    Catch,
+    With,
+    /// Any other: a block, a loop, a switch, a class.
+    Block,
+}
+
 /// What holds where a node stands.
 #[derive(Clone, Copy)]
 pub struct Setting {

@@ -1,6 +1,7 @@
 //! The tables of a tree's scopes, class bodies, heads and places. The number of an entry is its index.
 
-use crate::setting::Setting;
+use crate::setting::{ScopeKind, Setting};
+use tree_nodes::Node;
 
 /// A scope.
 #[derive(Clone, Copy)]
@@ -9,6 +10,11 @@ pub struct ScopeEntry {
     pub parent: Option<u32>,
     /// The nearest scope, from this one outwards, that a `var` may declare in.
     pub var_scope: Option<u32>,
+    /// The number of the node that opens it.
+    pub node: u32,
+    pub kind: ScopeKind,
+    /// Whether the code in it is strict.
+    pub strict: bool,
 }
 
 /// A class body.
@@ -38,6 +44,18 @@ pub struct PlaceEntry<'t> {
     pub private: bool,
     pub setting: Setting,
     pub name: &'t str,
+    /// The number of its name, which the places of other names don't have.
+    pub name_number: u32,
+}
+
+/// A node. Its own number is its index.
+#[derive(Clone, Copy)]
+pub struct NodeEntry<'t> {
+    pub node: &'t Node,
+    /// The number of the node around it: its own at the root.
+    pub parent: u32,
+    /// The scope in which it stands, which is not the one that it opens itself.
+    pub scope: Option<u32>,
 }
 
 /// The tables of a tree, each in printing order.
@@ -51,4 +69,9 @@ pub struct PlaceList<'t> {
     pub places: Vec<PlaceEntry<'t>>,
     /// The scopes around the WithStatements.
     pub withs: Vec<Option<u32>>,
+    /// How many different names the places have.
+    pub names: u32,
+    /// Whether the nodes are listed too.
+    pub lists_nodes: bool,
+    pub node_entries: Vec<NodeEntry<'t>>,
 }

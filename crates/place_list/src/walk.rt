@@ -10,15 +10,16 @@ ghost use Rattle.tree_nodes.specs.Views.{item_of, part_of};
 
 use crate::directives::strict_in;
 use crate::fields::{Around, at_field, opened, side};
-use crate::setting::Setting;
-use crate::tables::{ClassEntry, HeadEntry, PlaceEntry, PlaceList, ScopeEntry};
+use crate::scope_kinds::{scope_kind, value_scope};
+use crate::setting::{ScopeKind, Setting};
+use crate::tables::{ClassEntry, HeadEntry, NodeEntry, PlaceEntry, PlaceList, ScopeEntry};
 use std::alloc::AllocError;
 use tree_nodes::{
     Class, Column, Field, FieldList, Mark, Mode, Node, NodeList, Opens, Role, Strict, row,
 };
 
 // A count as a number. More than these have no room in the tables.
-fn number(count: usize) -> Result<u32, AllocError>
+pub(crate) fn number(count: usize) -> Result<u32, AllocError>
     ensures { IfOk result (λ n. n ≡ count) }
 {
     if count > 0xFFFF_FFFF {
@@ -114,42 +115,61 @@ fn inside_of(
     Ok(opened(opens, scopes, class_bodies, Setting { strict, ..here }))
 }
 
-// Counts a node, and takes down what it opens or the place that it is. Inside it has this var scope.
-#[tactic(auto, unfolding(crate::specs::TableWalk::met))]
+// Takes down a node in this field, where nodes are listed.
+#[tactic(auto, unfolding(crate::specs::TableWalk::listed_node))]
+fn list_node<'t>(
+    node: &'t Node,
+    around: &Around<'_>,
+    here: Setting,
+    list: &mut PlaceList<'t>,
+) -> Result<(), AllocError>
+    ensures { IfOk result (λ _. list_view list.new ≡ spec.listed_node (around_view around.now) here node.now (list_view list.old)) }
+{
+    if list.lists_nodes {
+        list.node_entries.push(NodeEntry {
+            node,
+            parent: around.number,
+            scope: here.scope,
+        })?;
+    }
+    Ok(())
+}
+
+// Counts a node, and takes down the scope of this kind or the class body that it opens, or the place that it is.
+#[tactic(auto, unfolding(crate::specs::TableWalk::met, crate::specs::TableWalk::put_scope, tree_places::specs::Lineage::opens_scope))]
 fn meet<'t>(
     opens: Opens,
+    kind: ScopeKind,
     start: u32,
     here: Setting,
-    var_scope: Option<u32>,
+    inside: Setting,
     fields: &'t FieldList,
     list: &mut PlaceList<'t>,
 ) -> Result<(), AllocError>
     ensures { IfOk result (λ _. list_view list.new
-        ≡ spec.met opens start here var_scope (text_of fields.now) (list_view list.old)) }
+        ≡ spec.met opens start here inside.var_scope (text_of fields.now) (spec.put_scope opens kind here inside (list_view list.old))) }
 {
     let node = list.nodes;
     list.nodes = node.checked_add(1).ok_or(AllocError)?;
+    let scope = ScopeEntry {
+        parent: here.scope,
+        var_scope: inside.var_scope,
+        node,
+        kind,
+        strict: inside.strict,
+    };
     match opens {
         Opens::Nothing => {}
         Opens::Block | Opens::Hoisting => {
-            list.scopes.push(ScopeEntry {
-                parent: here.scope,
-                var_scope,
-            })?;
+            list.scopes.push(scope)?;
         }
         Opens::BareBlock => {
             if !here.bare {
-                list.scopes.push(ScopeEntry {
-                    parent: here.scope,
-                    var_scope,
-                })?;
+                list.scopes.push(scope)?;
             }
         }
         Opens::WithBody => {
-            list.scopes.push(ScopeEntry {
-                parent: here.scope,
-                var_scope,
-            })?;
+            list.scopes.push(scope)?;
             list.withs.push(here.scope)?;
         }
         Opens::ClassMembers => {
@@ -164,6 +184,7 @@ fn meet<'t>(
                 private: false,
                 setting: here,
                 name: first_text(fields),
+                name_number: 0,
             })?;
         }
         Opens::PrivateNameHere => {
@@ -173,6 +194,7 @@ fn meet<'t>(
                 private: true,
                 setting: here,
                 name: first_text(fields),
+                name_number: 0,
             })?;
         }
     }
@@ -223,12 +245,16 @@ pub(crate) fn walk_node<'t>(
         inside,
         fields: &node.fields,
         number: list.nodes,
+        value_scope: value_scope(node.kind, &node.fields),
     };
+    let kind = scope_kind(node.kind, column, around.value_scope);
+    list_node(node, around, here, list)?;
     meet(
         row.opens,
+        kind,
         node.start,
         here,
-        inside.var_scope,
+        inside,
         &node.fields,
         list,
     )?;

@@ -1,6 +1,6 @@
-use Rattle.std.proofs.Common.{◌≤◌, map, rules, sym}
+use Rattle.std.proofs.Common.{◌≤◌, ◌∙◌, ap, map, rules, sym}
 use Rattle.place_list.specs.TableViews.{around_view, list_view}
-use Rattle.place_list.specs.TableWalk.{walk}
+use Rattle.place_list.specs.TableWalk.{listed_node, walk}
 use Rattle.tree_nodes.specs.Along.{first_column, other_columns}
 use Rattle.tree_nodes.specs.Look.{parts_len}
 use Rattle.tree_nodes.specs.Rows.{column_of, row_of}
@@ -14,8 +14,9 @@ pub walk_node-returns : goal.walk_node-returns
 walk_node-returns t c =
     let node : Tree = record { kind = c.node.inside.kind; start = c.node.inside.start; stop = c.node.inside.end; fields = c.node.inside.fields } in
     rw (← c.node.view_is)
-    (node_is node (column_of c.args.column.now) (around_view c.args.around.now) (list_view c.args.list.now) (list_view c.stand_in.new.list) (list_view c.meet.new.list)
-    (row_of c.row-row.result.now) c.in_ok-here.here c.in_ok-inside.inside c.row-row.ensures c.in_ok-here.ensures.here c.in_ok-here.ensures.put c.in_ok-inside.ensures c.in_ok-meet.ensures
+    (node_is node (column_of c.args.column.now) (around_view c.args.around.now) (list_view c.args.list.now) (list_view c.stand_in.new.list) (list_view c.list_node.new.list) (list_view c.meet.new.list)
+    (row_of c.row-row.result.now) c.in_ok-here.here c.in_ok-inside.inside c.value_scope.result c.scope_kind-kind.result c.row-row.ensures c.in_ok-here.ensures.here c.in_ok-here.ensures.put c.in_ok-inside.ensures
+    c.value_scope.ensures c.scope_kind-kind.ensures (c.in_ok-list_node.ensures ∙ ap (λ (n : Tree). listed_node (around_view c.args.around.now) c.in_ok-here.here n (list_view c.stand_in.new.list)) (sym c.node.view_is)) c.in_ok-meet.ensures
     c.walk_fields.result (λ _. list_view c.walk_fields.new.list) c.walk_fields.ensures)
 
 pub walk_field-returns-in-List : goal.walk_field-returns-in-List
