@@ -1,10 +1,10 @@
 //! The whole program, over any source and sink.
 
 ghost use Rattle.std.specs.Prelude.{◌≡◌, ◌≢◌, ◌+◌, ◌<◌, ◌≤◌, ◌↔◌, ◌⊎◌, length, IfSome, IsTrue};
-ghost use Rattle.mangle_tool.specs.declared.estree.MangleError.{MangleError};
+ghost use Rattle.mangle_tool.specs.declared.estree.error.MangleError.{MangleError};
 ghost use Rattle.mangle_tool.specs.declared.run.TheConstants.{INPUT_LIMIT};
 ghost use Rattle.mangle_tool.specs.Answer.{IsValidInput, refused_status};
-ghost use Rattle.mangle_tool.specs.Faults.{Rose};
+ghost use Rattle.mangle_tool.specs.Failures.{Rose};
 ghost use Rattle.mangle_tool.specs.Run.{HasAnswered, HasBegun, HasRefused};
 
 use crate::estree::{MangleError, mangle_estree};
@@ -36,6 +36,7 @@ impl From<MangleError> for Status {
 ///
 /// Nothing is written before the whole answer is ready: at any status but `Done` and `WriteFault` the sink
 /// is as it was.
+#[tactic(auto, using(crate::proofs::ToldBytes::nothing_is_left))]
 pub fn run<S: Source, K: Sink>(alloc: Global, source: &mut S, sink: &mut K) -> Status
     // What was read, and what was written.
     ensures done { result ≡ Status.Done
@@ -51,7 +52,7 @@ pub fn run<S: Source, K: Sink>(alloc: Global, source: &mut S, sink: &mut K) -> S
         → HasRefused (S.left source.old) (S.left source.new) (S.given source.old) (S.given source.new) e }
     ensures untouched { result ≢ Status.Done → result ≢ Status.WriteFault → sink.new ≡ sink.old }
 
-    // The faults of the outside.
+    // The failures of the outside.
     ensures read_fault { result ≡ Status.ReadFault → Rose (S.faults source.old) (S.faults source.new) }
     ensures read_fault_told { S.faults source.old < S.faults source.new
         → (result ≡ Status.ReadFault) ⊎ (result ≡ Status.Memory) }
