@@ -2,6 +2,7 @@
 
 ghost use Rattle.std.specs.Prelude.{◌≡◌};
 ghost use Rattle.mangle_tool.specs.Answer.{read_refusal};
+ghost use Rattle.mangle_tool.specs.declared.estree.error.MangleError.{MangleError};
 
 use std::alloc::AllocError;
 use std::fmt;
