@@ -1,5 +1,5 @@
 -- What is wrapped in a value is no larger than it.
-use Rattle.std.proofs.Common.{◌≡◌, ℕ, ◌+◌, ◌≤◌, ◌^◌, ◌&&◌, ◌||◌, Bool, true, false, true≢false, List, length, Option, Some, None, is_some, option_map, option_and_then, Bor, string_bytes, codes, Ordering, Less, Equal, Greater, nat_cmp, nat_eq, nat_le, if◌then◌else◌, refl, sym, ap, ◌∙◌, subst, arith}
+use Rattle.std.proofs.Common.{◌≡◌, ℕ, ◌+◌, ◌≤◌, ◌^◌, ◌&&◌, ◌||◌, Bool, false, List, length, Option, Some, is_some, option_map, option_and_then, Bor, string_bytes, codes, Ordering, Less, Equal, Greater, nat_cmp, nat_eq, nat_le, sym, ap, ◌∙◌, subst, arith}
 use Rattle.std.specs.Cmp.Lexicographic.{slice_cmp}
 use Rattle.std.specs.BTreeMap.{is_at}
 use Rattle.std.specs.Map.{lookup}
