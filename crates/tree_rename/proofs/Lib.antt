@@ -2,7 +2,6 @@
 pub mod RenamedJoined
 pub mod LoopSteps
 pub mod MarkOff
-
 -- what renaming changes and what it keeps
 pub mod OwnFirst
 pub mod FinishedKeepsBelow
@@ -10,7 +9,6 @@ pub mod RenamedAlike
 pub mod RenamedNames
 pub mod RenamedMarks
 pub mod WalkRenames
-
 -- a run that looks like one that fits the table and stands where it may
 pub mod AdmitsBlind
 pub mod IdentifierNames
@@ -18,6 +16,5 @@ pub mod FormedFits
 pub mod RenamedFields
 pub mod FitsAlike
 pub mod StandsAlike
-
 -- programs
 pub mod RenamedPrograms

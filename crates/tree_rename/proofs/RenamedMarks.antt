@@ -1,5 +1,5 @@
 -- A shorthand mark is on in a renamed run where it was on and the names of key and value agree.
-use Rattle.std.proofs.Common.{◌≡◌, ℕ, suc, Bool, true, false, ◌&&◌, List, [], ◌∷◌, ◌++◌, length, Option, bytes_eq, drop, if◌then◌else◌, refl, sym, ap, ap₂, ◌∙◌, ◌+◌}
+use Rattle.std.proofs.Common.{◌≡◌, ℕ, Bool, true, false, ◌&&◌, List, [], ◌∷◌, ◌++◌, length, Option, bytes_eq, drop, if◌then◌else◌, refl, sym, ap, ap₂, ◌∙◌, ◌+◌}
 use Rattle.std.proofs.lemmas.List.{length-append}
 use Rattle.tree_nodes.specs.Standing.{own_name}
 use Rattle.tree_nodes.specs.Tree.{Parts, Text, atom, child, done, flag, flag_of, many, part}

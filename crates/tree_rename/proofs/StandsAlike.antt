@@ -1,5 +1,5 @@
 -- A run that looks like one whose nodes stand where they may has its nodes where they may stand, if each shorthand mark in it stood there before and the names of key and value agree.
-use Rattle.std.proofs.Common.{◌≡◌, ℕ, suc, ◌+◌, Bool, true, false, not, ◌&&◌, ◌||◌, List, [], ◌∷◌, ◌++◌, length, if◌then◌else◌, refl, sym, ap, ap₂, ◌∙◌}
+use Rattle.std.proofs.Common.{◌≡◌, ℕ, suc, ◌+◌, Bool, true, false, not, ◌&&◌, ◌||◌, List, [], ◌∷◌, ◌++◌, length, refl, sym, ap, ap₂, ◌∙◌}
 use Rattle.std.proofs.lemmas.List.{length-append}
 use Rattle.tree_nodes.proofs.Cases.{both as both_true}
 use Rattle.tree_nodes.specs.Along.{Along, all, each, first_column, other_columns}
