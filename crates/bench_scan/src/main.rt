@@ -7,7 +7,7 @@ use std::alloc::{AllocError, Global};
 use std::process::ExitCode;
 use std::{env, io};
 
-/// How the bytes are looked at.
+// How the bytes are looked at.
 #[derive(Clone, Copy, PartialEq, Eq)]
 enum Way {
     Scan,

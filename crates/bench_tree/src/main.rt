@@ -13,7 +13,7 @@ use std::process::ExitCode;
 use std::{env, io};
 use tree_core::read_tree;
 
-/// What the text is read as.
+// What the text is read as.
 #[derive(Clone, Copy, PartialEq, Eq)]
 enum Form {
     Tree,

@@ -10,8 +10,8 @@ use Rattle.mangle_tool.specs.Input.{IsNotJson, Parses}
 use Rattle.mangle_tool.specs.Mangling.{IsFaulty, IsMangling, IsSound, tree_in}
 use Rattle.tree_core.specs.declared.read.ReadError.{ReadError}
 use Rattle.tree_core.specs.declared.read.ReadError.TheVariants as refusal
-use Rattle.mangle_tool.specs.declared.estree.MangleError.{MangleError}
-use Rattle.mangle_tool.specs.declared.estree.MangleError.TheVariants.{NotJson, TooLarge, BadTree, BadScope, Memory}
+use Rattle.mangle_tool.specs.declared.estree.error.MangleError.{MangleError}
+use Rattle.mangle_tool.specs.declared.estree.error.MangleError.TheVariants.{NotJson, TooLarge, BadTree, BadScope, Memory}
 use Rattle.mangle_tool.specs.declared.status.Status.{Status}
 use Rattle.mangle_tool.specs.declared.status.Status.TheVariants as status
 

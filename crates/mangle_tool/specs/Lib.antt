@@ -1,5 +1,5 @@
 pub mod Answer
-pub mod Faults
+pub mod Failures
 pub mod Input
 pub mod Mangling
 pub mod MemorySink

@@ -3,10 +3,10 @@
 ghost use Rattle.std.specs.Prelude.{◌≡◌, ◌+◌, ◌-◌, ◌<◌, ◌^◌, false, length, IsErr};
 ghost use Rattle.std.specs.Io.{ReadsAtMost};
 ghost use Rattle.std.specs.Io.KnownBytes.{ReadConsumes};
-ghost use Rattle.mangle_tool.specs.Faults.{CountsFaults};
+ghost use Rattle.mangle_tool.specs.Failures.{CountsFaults};
 ghost use Rattle.mangle_tool.specs.Source.{CountsGiven};
 
-use crate::faults::fault;
+use crate::failures::fail;
 use crate::sink::Sink;
 use crate::source::{Failed, Source};
 use std::io::{Read, Write};
@@ -22,7 +22,7 @@ pub struct ReaderSource<R> {
 impl<R: Read> ReaderSource<R> {
     ghost use Rattle.mangle_tool.specs.ReaderSource.{reader_of, given_by, faults_of};
 
-    /// A source over `reader` that has given nothing and has had no fault.
+    /// A source over `reader` that has given nothing and has never failed.
     pub fn new(reader: R) -> Self
         ensures reader { reader_of result ≡ reader }
         ensures given { given_by result ≡ 0 }
@@ -58,14 +58,14 @@ impl<R: Read> Source for ReaderSource<R> {
             → IsErr result × (reader_of self.new ≡ reader_of self.old) }
     {
         if u64::MAX - self.given < buf.len() as u64 {
-            return Err(fault(&mut self.faults));
+            return Err(fail(&mut self.faults));
         }
         match self.reader.read(buf) {
             Ok(count) => {
                 self.given += count as u64;
                 Ok(count)
             }
-            Err(_) => Err(fault(&mut self.faults)),
+            Err(_) => Err(fail(&mut self.faults)),
         }
     }
 }
@@ -81,7 +81,7 @@ pub struct WriterSink<W> {
 impl<W: Write> WriterSink<W> {
     ghost use Rattle.mangle_tool.specs.WriterSink.{writer_of, is_settled, faults_of};
 
-    /// A sink over `writer` that isn't settled and has had no fault.
+    /// A sink over `writer` that isn't settled and has never failed.
     pub fn new(writer: W) -> Self
         ensures writer { writer_of result ≡ writer }
         ensures settled { is_settled result ≡ false }
@@ -110,7 +110,7 @@ impl<W: Write> Sink for WriterSink<W> {
                 self.settled = self.settled && piece.is_empty();
                 Ok(count)
             }
-            Ok(_) | Err(_) => Err(fault(&mut self.faults)),
+            Ok(_) | Err(_) => Err(fail(&mut self.faults)),
         }
     }
 
@@ -120,7 +120,7 @@ impl<W: Write> Sink for WriterSink<W> {
                 self.settled = true;
                 Ok(())
             }
-            Err(_) => Err(fault(&mut self.faults)),
+            Err(_) => Err(fail(&mut self.faults)),
         }
     }
 }

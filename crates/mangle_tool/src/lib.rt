@@ -4,7 +4,7 @@
 
 pub mod adapters;
 pub mod estree;
-mod faults;
+mod failures;
 mod mangle;
 pub mod memory;
 pub mod read_all;
@@ -12,8 +12,4 @@ pub mod run;
 pub mod sink;
 pub mod source;
 pub mod status;
-#[cfg(test)]
-mod tests;
-#[cfg(test)]
-mod tree_tests;
 pub mod write_whole;

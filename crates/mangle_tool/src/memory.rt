@@ -3,10 +3,10 @@
 ghost use Rattle.std.specs.Prelude.{◌≡◌, ◌+◌, ◌-◌, ◌<◌, ◌≤◌, ◌↔◌, ◌⊎◌, Some, Ok, true, false, ◌&&◌, ◌==◌, [], ◌++◌, length, take, drop, min, Contains, IfOk, IsErr, IsTrue, OnErr, OnOk};
 ghost use Rattle.std.specs.Io.{ReadsAtMost, WritesAtMost};
 ghost use Rattle.std.specs.Io.KnownBytes.{Keeps, ReadConsumes, WriteAppends};
-ghost use Rattle.mangle_tool.specs.Faults.{CountsFaults, next_count};
+ghost use Rattle.mangle_tool.specs.Failures.{CountsFaults, next_count};
 ghost use Rattle.mangle_tool.specs.Source.{CountsGiven};
 
-use crate::faults::fault;
+use crate::failures::fail;
 use crate::sink::Sink;
 use crate::source::{Failed, Source};
 use std::alloc::{AllocError, Global};
@@ -154,7 +154,7 @@ impl<'a> Source for MemorySource<'a> {
         }) }
     {
         if fails_next(self.fails, &mut self.call) {
-            return Err(fault(&mut self.faults));
+            return Err(fail(&mut self.faults));
         }
         let count = buf.len().min(self.piece).min(self.left.len());
         self.left = give(self.left, buf, count);
@@ -275,7 +275,7 @@ impl<'f> Sink for MemorySink<'f> {
         let listed = fails_next(self.fails, &mut self.call);
         let count = piece.len().min(self.piece).min(self.room - self.held.len());
         if listed || (count == 0 && !piece.is_empty()) {
-            return Err(fault(&mut self.faults));
+            return Err(fail(&mut self.faults));
         }
         // The room was made at the start, so that this is never refused.
         self.held.extend_from_slice(&piece[..count]).unwrap();
@@ -303,14 +303,14 @@ impl<'f> Sink for MemorySink<'f> {
         }) }
     {
         if fails_next(self.fails, &mut self.call) {
-            return Err(fault(&mut self.faults));
+            return Err(fail(&mut self.faults));
         }
         self.settled = true;
         Ok(())
     }
 }
 
-/// Copies the first `count` bytes of `left` to the front of `buf`, and gives the rest.
+// Copies the first `count` bytes of `left` to the front of `buf`, and gives the rest.
 fn give<'a>(left: &'a [u8], buf: &mut [u8], count: usize) -> &'a [u8]
     requires in_left { count ≤ length left.now }
     requires in_buf { count ≤ length buf.old }
@@ -322,7 +322,7 @@ fn give<'a>(left: &'a [u8], buf: &mut [u8], count: usize) -> &'a [u8]
     rest
 }
 
-/// Numbers a call, and answers whether it is one of those that fail.
+// Numbers a call, and answers whether it is one of those that fail.
 fn fails_next(fails: &[u64], call: &mut u64) -> bool
     ensures listed { IsTrue result ↔ Contains fails.now call.old }
     ensures next { call.new ≡ next_count call.old }

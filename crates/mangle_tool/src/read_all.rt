@@ -3,13 +3,13 @@
 ghost use Rattle.std.specs.Prelude.{◌≡◌, ◌≢◌, ◌+◌, ◌-◌, ◌<◌, ◌≤◌, ◌↔◌, ◌⊎◌, Some, Err, length, IfOk, IfSome, IsErrOf, OnOk, vec_len};
 ghost use Rattle.std.specs.Io.KnownBytes.{IsAtEnd};
 ghost use Rattle.mangle_tool.specs.declared.read_all.ReadAllError.{ReadAllError};
-ghost use Rattle.mangle_tool.specs.Faults.{Rose};
+ghost use Rattle.mangle_tool.specs.Failures.{Rose};
 ghost use Rattle.mangle_tool.specs.Source.{LosesFront};
 
 use crate::source::{Failed, Source};
 use std::alloc::{AllocError, Global};
 
-/// How many bytes are asked for at once, at most.
+// How many bytes are asked for at once, at most.
 const CHUNK: usize = 8192;
 
 /// Why a source wasn't read to its end.
@@ -68,7 +68,7 @@ pub fn read_all<S: Source>(
         → IfSome (S.left source.old) (λ left.
         IsErrOf result ReadAllError.TooLong ↔ (limit < length left)) }
 
-    // Where the source had a fault, only `Failed` or `Memory` comes.
+    // Where the source failed, only `Failed` or `Memory` comes.
     ensures faults_never_fall { S.faults source.old ≤ S.faults source.new }
     ensures fault_told { S.faults source.old < S.faults source.new
         → (IsErrOf result ReadAllError.Failed ⊎ IsErrOf result ReadAllError.Memory) }

@@ -1,11 +1,12 @@
 //! The whole program, over any source and sink.
 
-ghost use Rattle.std.specs.Prelude.{◌≡◌, ◌≢◌, ◌+◌, ◌<◌, ◌≤◌, ◌↔◌, ◌⊎◌, length, IfSome, IsTrue};
-ghost use Rattle.mangle_tool.specs.declared.estree.MangleError.{MangleError};
+ghost use Rattle.std.specs.Prelude.{◌≡◌, ◌≢◌, ◌+◌, ◌-◌, ◌<◌, ◌≤◌, ◌↔◌, ◌⊎◌, length, IfSome, IsTrue};
+ghost use Rattle.mangle_tool.specs.declared.estree.error.MangleError.{MangleError};
 ghost use Rattle.mangle_tool.specs.declared.run.TheConstants.{INPUT_LIMIT};
 ghost use Rattle.mangle_tool.specs.Answer.{IsValidInput, refused_status};
-ghost use Rattle.mangle_tool.specs.Faults.{Rose};
+ghost use Rattle.mangle_tool.specs.Failures.{Rose};
 ghost use Rattle.mangle_tool.specs.Run.{HasAnswered, HasBegun, HasRefused};
+ghost use Rattle.mangle_tool.specs.Source.{LosesFront};
 
 use crate::estree::{MangleError, mangle_estree};
 use crate::read_all::read_all;
@@ -36,6 +37,7 @@ impl From<MangleError> for Status {
 ///
 /// Nothing is written before the whole answer is ready: at any status but `Done` and `WriteFault` the sink
 /// is as it was.
+#[tactic(auto, using(crate::proofs::ToldBytes::nothing_is_left))]
 pub fn run<S: Source, K: Sink>(alloc: Global, source: &mut S, sink: &mut K) -> Status
     // What was read, and what was written.
     ensures done { result ≡ Status.Done
@@ -51,7 +53,7 @@ pub fn run<S: Source, K: Sink>(alloc: Global, source: &mut S, sink: &mut K) -> S
         → HasRefused (S.left source.old) (S.left source.new) (S.given source.old) (S.given source.new) e }
     ensures untouched { result ≢ Status.Done → result ≢ Status.WriteFault → sink.new ≡ sink.old }
 
-    // The faults of the outside.
+    // The failures of the outside.
     ensures read_fault { result ≡ Status.ReadFault → Rose (S.faults source.old) (S.faults source.new) }
     ensures read_fault_told { S.faults source.old < S.faults source.new
         → (result ≡ Status.ReadFault) ⊎ (result ≡ Status.Memory) }
@@ -64,6 +66,12 @@ pub fn run<S: Source, K: Sink>(alloc: Global, source: &mut S, sink: &mut K) -> S
     ensures write_fault { result ≡ Status.WriteFault → Rose (K.faults sink.old) (K.faults sink.new) }
     ensures write_fault_told { K.faults sink.old < K.faults sink.new → result ≡ Status.WriteFault }
     ensures no_argument { result ≢ Status.BadArgument }
+
+    // At any end the source has lost what it gave.
+    ensures given_never_falls { S.given source.old ≤ S.given source.new }
+    ensures at_most { S.given source.new ≤ S.given source.old + (INPUT_LIMIT + 1) }
+    ensures rest { IfSome (S.left source.old)
+        (LosesFront (S.left source.new) (S.given source.new - S.given source.old)) }
 
     // Where nothing fails, a valid input is answered.
     ensures complete { ¬ Rose (S.faults source.old) (S.faults source.new)

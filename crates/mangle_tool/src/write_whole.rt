@@ -2,7 +2,7 @@
 
 ghost use Rattle.std.specs.Prelude.{IsTrue, OnErr, OnOk};
 ghost use Rattle.std.specs.Io.KnownBytes.{Appends};
-ghost use Rattle.mangle_tool.specs.Faults.{CountsFaults};
+ghost use Rattle.mangle_tool.specs.Failures.{CountsFaults};
 ghost use Rattle.mangle_tool.specs.Sink.{AppendsPrefix};
 
 use crate::sink::Sink;
@@ -11,7 +11,7 @@ use crate::source::Failed;
 /// Writes all of `bytes`, and then settles the sink.
 ///
 /// Where the sink fails, it got some first bytes of `bytes`, and nothing is tried after that.
-#[tactic(auto, using(crate::proofs::Told::appends_take_more))]
+#[tactic(auto, using(crate::proofs::ToldBytes::appends_take_more))]
 pub fn write_whole<K: Sink>(sink: &mut K, bytes: &[u8]) -> Result<(), Failed>
     ensures whole { OnOk result (Appends (K.held sink.old) (K.held sink.new) bytes.now) }
     ensures settled { OnOk result (IsTrue (K.settled sink.new)) }

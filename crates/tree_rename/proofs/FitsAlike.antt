@@ -11,8 +11,8 @@ use Rattle.tree_places.proofs.Blind.{blank-blind}
 use Rattle.tree_places.specs.Places.{hide}
 use Rattle.tree_places.specs.Renaming.{blind}
 use Rattle.tree_rename.specs.Formed.{AreFormed, IsFormed}
-use Rattle.tree_rename.proofs.Named.{Named, NamedHere}
-use Rattle.tree_rename.proofs.Other.{Other, other}
+use Rattle.tree_rename.proofs.IdentifierNames.{Named, NamedHere}
+use Rattle.tree_rename.proofs.RenamedFields.{RenamedFields, renamed_fields}
 
 empty_alike : (n m : Parts) → blind n ≡ blind m → is_empty n ≡ is_empty m
 empty_alike n m e = sym (blank-blind n) ∙ ap is_empty e ∙ blank-blind m
@@ -30,10 +30,10 @@ pub child_same : (k k' : Kind) (s s' e e' : ℕ) (f f' m m' : Parts) → child k
 child_same k k' s s' e e' f f' m m' same = (cc, cc, cc, cc, cc)
 
 -- the fields of a node beside those that were there
-pub other_fields : (k k' : Kind) (fields others : Parts) → k ≡ k' → hide k (blind fields) ≡ hide k' (blind others)
-    → IsFormed k' others → NamedHere k fields → Other k fields others
-other_fields k k' fields others p same w n =
-    other k fields others (subst (λ x. IsFormed x others) (sym p) w) (same ∙ ap (λ x. hide x (blind others)) (sym p)) n
+pub renamed_child : (k k' : Kind) (fields others : Parts) → k ≡ k' → hide k (blind fields) ≡ hide k' (blind others)
+    → IsFormed k' others → NamedHere k fields → RenamedFields k fields others
+renamed_child k k' fields others p same w n =
+    renamed_fields k fields others (subst (λ x. IsFormed x others) (sym p) w) (same ∙ ap (λ x. hide x (blind others)) (sym p)) n
 
 mutual
   unfolding blind
@@ -56,7 +56,7 @@ mutual
   fit_fields (child k s e fields more) (child k' s' e' others rest) [] same w n f = absurd f
   fit_fields (child k s e fields more) (child k' s' e' others rest) (c ∷ cs) same w n f =
       let p = child_same k k' s s' e e' _ _ _ _ same in
-      let o = other_fields k k' fields others p.0 p.3 w.0 n.0 in (
+      let o = renamed_child k k' fields others p.0 p.3 w.0 n.0 in (
         f.0,
         head_alike s s' e e' p.1 p.2 f.1,
         fit_fields fields o.fields (row k).columns o.alike (o.formed w.1) n.1 (o.fits (subst (λ x. FitFields others (row x).columns) (sym p.0) f.2)),
@@ -76,7 +76,7 @@ mutual
   fit_items (many items more) _ holes same w n f = absurd (cc)
   fit_items (child k s e fields more) (child k' s' e' others rest) holes same w n f =
       let p = child_same k k' s s' e e' _ _ _ _ same in
-      let o = other_fields k k' fields others p.0 p.3 w.0 n.0 in (
+      let o = renamed_child k k' fields others p.0 p.3 w.0 n.0 in (
         head_alike s s' e e' p.1 p.2 f.0,
         fit_fields fields o.fields (row k).columns o.alike (o.formed w.1) n.1 (o.fits (subst (λ x. FitFields others (row x).columns) (sym p.0) f.1)),
         fit_items more rest holes p.4 w.2 n.2 f.2,
@@ -88,7 +88,7 @@ pub tree_fits_alike : (u t : Tree) → blind (alone u) ≡ blind (alone t) → A
 unfolding blind
 tree_fits_alike u t same w n f =
     let p = child_same u.kind t.kind u.start t.start u.stop t.stop _ _ _ _ same in
-    let o = other_fields u.kind t.kind u.fields t.fields p.0 p.3 w.0 n.0 in (
+    let o = renamed_child u.kind t.kind u.fields t.fields p.0 p.3 w.0 n.0 in (
       head_alike u.start t.start u.stop t.stop p.1 p.2 f.0,
       fit_fields u.fields o.fields (row u.kind).columns o.alike (o.formed w.1) n.1 (o.fits (subst (λ x. FitFields t.fields (row x).columns) (sym p.0) f.1)),
     )

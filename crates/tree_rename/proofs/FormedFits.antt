@@ -17,7 +17,7 @@ use Rattle.tree_nodes.specs.declared.table.Group.{Group}
 use Rattle.tree_nodes.specs.declared.table.Group.TheVariants.{Keys, PropertyValues}
 use Rattle.tree_nodes.specs.declared.table.Words.{Words}
 use Rattle.tree_nodes.specs.declared.table.Words.TheVariants.{PropertyKinds}
-use Rattle.tree_rename.proofs.Named.{Named, NamedHere}
+use Rattle.tree_rename.proofs.IdentifierNames.{Named, NamedHere}
 use Rattle.tree_rename.specs.Formed.{AreFormed, HasPair, HasText, IsFormed}
 use Rattle.tree_rename.specs.Laws.{IsName}
 

@@ -1,5 +1,5 @@
 -- A run that looks like one whose nodes stand where they may has its nodes where they may stand, if each shorthand mark in it stood there before and the names of key and value agree.
-use Rattle.std.proofs.Common.{◌≡◌, ℕ, suc, ◌+◌, Bool, true, false, not, ◌&&◌, ◌||◌, List, [], ◌∷◌, ◌++◌, length, if◌then◌else◌, refl, sym, ap, ap₂, ◌∙◌}
+use Rattle.std.proofs.Common.{◌≡◌, ℕ, suc, ◌+◌, Bool, true, false, not, ◌&&◌, ◌||◌, List, [], ◌∷◌, ◌++◌, length, refl, sym, ap, ap₂, ◌∙◌}
 use Rattle.std.proofs.lemmas.List.{length-append}
 use Rattle.tree_nodes.proofs.Cases.{both as both_true}
 use Rattle.tree_nodes.specs.Along.{Along, all, each, first_column, other_columns}
@@ -17,15 +17,13 @@ use Rattle.tree_places.specs.Open.{all_open}
 use Rattle.tree_places.specs.Places.{hide, unmarked, unnamed}
 use Rattle.tree_places.specs.Renaming.{agreements, blind, both, is_property, marks}
 use Rattle.tree_rename.specs.Formed.{AreFormed}
-use Rattle.tree_rename.proofs.FitsAlike.{child_same, other_fields}
-use Rattle.tree_rename.proofs.Marks.{agrees, both-append, own_agreements, own_marks}
-use Rattle.tree_rename.proofs.Named.{Named}
-use Rattle.tree_rename.proofs.Seen.{group_seen, has_case_seen}
+use Rattle.tree_rename.proofs.FitsAlike.{child_same, renamed_child}
+use Rattle.tree_rename.proofs.RenamedMarks.{agrees, both_append, mark_of}
+use Rattle.tree_rename.proofs.OwnFirst.{length_own, one_more, with_own}
+use Rattle.tree_rename.proofs.IdentifierNames.{Named}
+use Rattle.tree_rename.proofs.AdmitsBlind.{group_admits_blind, has_case_blind}
 
 -- ---- how many Properties there are
-
-abbrev one_more : Bool → ℕ → ℕ
-one_more b n = if b then suc n else n
 
 properties : Parts → ℕ
 properties done = 0
@@ -58,22 +56,14 @@ properties_blind (many items more) = ap₂ (λ a b. a + b) (properties_blind ite
 properties_blind (child k s e fields more) =
     ap₂ (λ a b. one_more (is_property k) a + b) (properties_hide k (blind fields) ∙ properties_blind fields) (properties_blind more)
 
-length_own_marks : (b : Bool) (x : Parts) (n : ℕ) → length (marks x) ≡ n → length (own_marks b x) ≡ one_more b n
-length_own_marks true x n e = ap suc e
-length_own_marks false x n e = e
-
-length_own_agreements : (b : Bool) (x : Parts) (n : ℕ) → length (agreements x) ≡ n → length (own_agreements b x) ≡ one_more b n
-length_own_agreements true x n e = ap suc e
-length_own_agreements false x n e = e
-
 length_marks : (x : Parts) → length (marks x) ≡ properties x
 unfolding properties marks
 length_marks done = refl
 length_marks (atom a more) = length_marks more
 length_marks (many items more) = length-append (marks items) (marks more) ∙ ap₂ (λ a b. a + b) (length_marks items) (length_marks more)
 length_marks (child k s e fields more) =
-    length-append (own_marks (is_property k) fields) (marks more)
-    ∙ ap₂ (λ a b. a + b) (length_own_marks (is_property k) fields (properties fields) (length_marks fields)) (length_marks more)
+    length-append (with_own mark_of marks (is_property k) fields) (marks more)
+    ∙ ap₂ (λ a b. a + b) (length_own mark_of marks (is_property k) fields (properties fields) (length_marks fields)) (length_marks more)
 
 length_agreements : (x : Parts) → length (agreements x) ≡ properties x
 unfolding properties agreements
@@ -82,8 +72,8 @@ length_agreements (atom a more) = length_agreements more
 length_agreements (many items more) =
     length-append (agreements items) (agreements more) ∙ ap₂ (λ a b. a + b) (length_agreements items) (length_agreements more)
 length_agreements (child k s e fields more) =
-    length-append (own_agreements (is_property k) fields) (agreements more)
-    ∙ ap₂ (λ a b. a + b) (length_own_agreements (is_property k) fields (properties fields) (length_agreements fields)) (length_agreements more)
+    length-append (with_own agrees agreements (is_property k) fields) (agreements more)
+    ∙ ap₂ (λ a b. a + b) (length_own agrees agreements (is_property k) fields (properties fields) (length_agreements fields)) (length_agreements more)
 
 -- ---- marks of two runs
 
@@ -105,20 +95,20 @@ length_both (x ∷ a) (y ∷ b) e = ap suc (length_both a b (cc))
 marks_split : (a b c d e f : List Bool) → length a ≡ length c → length c ≡ length e → a ++ b ≡ both (c ++ d) (e ++ f)
     → (a ≡ both c e) × (b ≡ both d f)
 marks_split a b c d e f p q same =
-    append_split a b (both c e) (both d f) (p ∙ sym (length_both c e q)) (same ∙ both-append c d e f q)
+    append_split a b (both c e) (both d f) (p ∙ sym (length_both c e q)) (same ∙ both_append c d e f q)
 
 length_alike : (u t : Parts) → blind u ≡ blind t → length (marks u) ≡ length (marks t)
 length_alike u t e = length_marks u ∙ sym (properties_blind u) ∙ ap properties e ∙ properties_blind t ∙ sym (length_marks t)
 
 length_own_alike : (k : Kind) (u t : Parts) → hide k (blind u) ≡ hide k (blind t)
-    → (length (own_marks (is_property k) u) ≡ length (own_marks (is_property k) t)) × (length (own_marks (is_property k) t) ≡ length (own_agreements (is_property k) u))
+    → (length (with_own mark_of marks (is_property k) u) ≡ length (with_own mark_of marks (is_property k) t)) × (length (with_own mark_of marks (is_property k) t) ≡ length (with_own agrees agreements (is_property k) u))
 length_own_alike k u t e =
     let n = properties u in
     let counted : properties t ≡ n =
     sym (properties_blind t) ∙ sym (properties_hide k (blind t)) ∙ sym (ap properties e) ∙ properties_hide k (blind u) ∙ properties_blind u in
-    let mine = length_own_marks (is_property k) u n (length_marks u) in
-    let yours = length_own_marks (is_property k) t n (length_marks t ∙ counted) in
-    (mine ∙ sym yours, yours ∙ sym (length_own_agreements (is_property k) u n (length_agreements u)))
+    let mine = length_own mark_of marks (is_property k) u n (length_marks u) in
+    let yours = length_own mark_of marks (is_property k) t n (length_marks t ∙ counted) in
+    (mine ∙ sym yours, yours ∙ sym (length_own agrees agreements (is_property k) u n (length_agreements u)))
 
 -- ---- whether a node is sound
 
@@ -157,11 +147,11 @@ property_sound g f e m h =
 
 -- a node is as sound as it was, and so are the marks below it
 own_sound : (k : Kind) (g f : Parts) → hide k (blind g) ≡ hide k (blind f)
-    → own_marks (is_property k) g ≡ both (own_marks (is_property k) f) (own_agreements (is_property k) g) → is_sound k f ≡ true
+    → with_own mark_of marks (is_property k) g ≡ both (with_own mark_of marks (is_property k) f) (with_own agrees agreements (is_property k) g) → is_sound k f ≡ true
     → (is_sound k g ≡ true) × (marks g ≡ both (marks f) (agreements g))
 unfolding both hide is_property is_sound
 own_sound Property g f e m h = (property_sound g f e (cc) h, cc)
-own_sound Literal g f e m h = (sym (has_case_seen g) ∙ ap has_case e ∙ has_case_seen f ∙ h, m)
+own_sound Literal g f e m h = (sym (has_case_blind g) ∙ ap has_case e ∙ has_case_blind f ∙ h, m)
 own_sound _ g f e m h = (refl, m)
 
 -- ---- a run
@@ -188,7 +178,7 @@ stand_alike (many items more) (many others rest) cs own within before same aroun
 stand_alike (many items more) _ cs own within before same around w n m h = absurd (cc)
 stand_alike (child k s e fields more) (child k' s' e' others rest) cs own within before same around w n m h =
     let p = child_same k k' s s' e e' _ _ _ _ same in
-    let o = other_fields k k' fields others p.0 p.3 w.0 n.0 in
+    let o = renamed_child k k' fields others p.0 p.3 w.0 n.0 in
     let column = first_column cs in
     let r = role_at column.mode own within in
     let r' = role_at column.mode own before in
@@ -200,12 +190,12 @@ stand_alike (child k s e fields more) (child k' s' e' others rest) cs own within
     let c = both_true admits (is_sound k' others) b.0 in
     let looks : hide k (blind fields) ≡ hide k (blind others) = p.3 ∙ ap (λ x. hide x (blind others)) (sym p.0) in
     let admitted : group_admits column.class r within k fields ≡ true =
-    sym (group_seen column.class r within k fields) ∙ ap₂ (λ x y. group_admits column.class r x k y) around looks
-    ∙ group_seen column.class r before k others ∙ ap₂ (λ x y. group_admits column.class x before y others) role p.0 ∙ c.0 in
+    sym (group_admits_blind column.class r within k fields) ∙ ap₂ (λ x y. group_admits column.class r x k y) around looks
+    ∙ group_admits_blind column.class r before k others ∙ ap₂ (λ x y. group_admits column.class x before y others) role p.0 ∙ c.0 in
     let kinds = ap is_property (sym p.0) in
     let lengths = length_own_alike k fields others looks in
-    let split = marks_split (own_marks (is_property k) fields) (marks more) (own_marks (is_property k) others) (marks rest) (own_agreements (is_property k) fields) (agreements more)
-    lengths.0 lengths.1 (m ∙ ap (λ x. both (own_marks x others ++ marks rest) (own_agreements (is_property k) fields ++ agreements more)) kinds) in
+    let split = marks_split (with_own mark_of marks (is_property k) fields) (marks more) (with_own mark_of marks (is_property k) others) (marks rest) (with_own agrees agreements (is_property k) fields) (agreements more)
+    lengths.0 lengths.1 (m ∙ ap (λ x. both (with_own mark_of marks x others ++ marks rest) (with_own agrees agreements (is_property k) fields ++ agreements more)) kinds) in
     let sound = own_sound k fields others looks split.0 (ap (λ x. is_sound x others) p.0 ∙ c.1) in
     let stood : stands others (each (row k).columns) r others ≡ true = ap₂ (λ x y. stands others (each (row x).columns) y others) p.0 role ∙ b.1 in
     let below = stand_alike fields o.fields (each (row k).columns) r fields o.fields o.alike o.alike (o.formed w.1) n.1

@@ -7,6 +7,3 @@ mod walk;
 
 pub use laws::renamed_programs_are_programs;
 pub use renaming::{rename, rename_tree};
-
-#[cfg(test)]
-mod tests;

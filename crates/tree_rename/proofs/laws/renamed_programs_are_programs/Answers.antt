@@ -1,4 +1,4 @@
-use Rattle.tree_rename.proofs.Programs as programs
+use Rattle.tree_rename.proofs.RenamedPrograms as programs
 use Rattle.tree_rename.proofs.laws.renamed_programs_are_programs.Goals as goal
 
 pub returns : goal.returns

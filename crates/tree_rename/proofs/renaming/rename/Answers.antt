@@ -2,7 +2,7 @@ use Rattle.std.proofs.Common.{ap, map, string_bytes, ◌∙◌}
 use Rattle.tree_nodes.specs.Tree.{alone}
 use Rattle.tree_places.specs.Places.{names}
 use Rattle.tree_rename.specs.Renamed.{renamed}
-use Rattle.tree_rename.proofs.Programs.{program_renamed, texts_are_names}
+use Rattle.tree_rename.proofs.RenamedPrograms.{program_renamed, texts_are_names}
 use Rattle.tree_rename.proofs.renaming.rename.Goals as goal
 
 pub from_root-requires : goal.from_root-requires

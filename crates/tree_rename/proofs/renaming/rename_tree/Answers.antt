@@ -2,8 +2,8 @@ use Rattle.std.proofs.Common.{ap, map, string_bytes, subst, sym, ◌∙◌}
 use Rattle.tree_nodes.specs.Tree.{alone}
 use Rattle.tree_places.specs.Places.{names}
 use Rattle.tree_places.specs.Renaming.{IsRenamed}
-use Rattle.tree_rename.proofs.Names.{renamed_names}
-use Rattle.tree_rename.proofs.Plain.{walk_renames}
+use Rattle.tree_rename.proofs.RenamedNames.{renamed_names}
+use Rattle.tree_rename.proofs.WalkRenames.{walk_renames}
 use Rattle.tree_rename.proofs.renaming.rename_tree.Goals as goal
 
 pub returns-clause-renamed : goal.returns-clause-renamed

@@ -2,8 +2,8 @@ use Rattle.std.proofs.Common.{◌≡◌, ◌<◌, length, drop, map, string_byte
 use Rattle.tree_nodes.specs.Look.{part_size, parts_size}
 use Rattle.tree_nodes.specs.Views.{item_of, items_of, part_of, parts_of}
 use Rattle.tree_rename.specs.Renamed.{count, finished, renamed}
-use Rattle.tree_rename.proofs.Runs.{list_left, list_made, node_left, node_made}
-use Rattle.tree_rename.proofs.Steps.{if_ok_also, field_size, first_field, first_item, item_no_larger, item_part_size, last_step, next_step, smaller, written_back}
+use Rattle.tree_rename.proofs.RenamedJoined.{list_left, list_made, node_left, node_made}
+use Rattle.tree_rename.proofs.LoopSteps.{if_ok_also, field_size, first_field, first_item, item_no_larger, item_part_size, last_step, next_step, smaller, written_back}
 use Rattle.tree_rename.proofs.walk.+rename.Goals as goal
 
 pub rename_field-returns-in-List-clause-tree : goal.rename_field-returns-in-List-clause-tree

@@ -1,0 +1,17 @@
+//! Tests of `mangle_tool` over its public calls. They stand here, since a crate with tests is proved twice.
+#![tactic(auto)]
+
+#[cfg(test)]
+mod adapters;
+#[cfg(test)]
+mod answers;
+#[cfg(test)]
+mod fields;
+#[cfg(test)]
+mod memory;
+#[cfg(test)]
+mod names;
+#[cfg(test)]
+mod runs;
+#[cfg(test)]
+mod samples;

@@ -1,0 +1,20 @@
+//! Inputs and answers, in the layout of acorn and in that of this project.
+
+// A module with an empty body, of 84 bytes.
+pub(crate) const EMPTY_MODULE: &str =
+    "{\"type\":\"Program\",\"start\":0,\"end\":0,\"body\":[],\"sourceType\":\"module\",\"hashbang\":null}";
+
+// The answer to it, of 106 bytes.
+pub(crate) const EMPTY_ANSWER: &str =
+    "{\"node\":\n{\"type\":\"Program\",\"start\":0,\"end\":0,\"body\":[],\"sourceType\":\"module\",\"hashbang\":null}\n,\"fixes\":[]}";
+
+// The module `let x = 1; x`, as acorn writes it.
+pub(crate) const LET_MODULE: &str =
+    "{\"type\":\"Program\",\"start\":0,\"end\":12,\"body\":[{\"type\":\"VariableDeclaration\",\"start\":0,\"end\":10,\"declarations\":[{\"type\":\"VariableDeclarator\",\"start\":4,\"end\":9,\"id\":{\"type\":\"Identifier\",\"start\":4,\"end\":5,\"name\":\"x\"},\"init\":{\"type\":\"Literal\",\"start\":8,\"end\":9,\"value\":1,\"raw\":\"1\"}}],\"kind\":\"let\"},{\"type\":\"ExpressionStatement\",\"start\":11,\"end\":12,\"expression\":{\"type\":\"Identifier\",\"start\":11,\"end\":12,\"name\":\"x\"}}],\"sourceType\":\"module\"}";
+
+// The answer to it.
+pub(crate) const LET_ANSWER: &str =
+    "{\"node\":\n{\"type\":\"Program\",\"start\":0,\"end\":12,\"body\":[{\"type\":\"VariableDeclaration\",\"start\":0,\"end\":10,\"kind\":\"let\",\"declarations\":[{\"type\":\"VariableDeclarator\",\"start\":4,\"end\":9,\"id\":{\"type\":\"Identifier\",\"start\":4,\"end\":5,\"name\":\"e\"},\"init\":{\"type\":\"Literal\",\"start\":8,\"end\":9,\"value\":1,\"raw\":\"1\"}}]},{\"type\":\"ExpressionStatement\",\"start\":11,\"end\":12,\"expression\":{\"type\":\"Identifier\",\"start\":11,\"end\":12,\"name\":\"e\"}}],\"sourceType\":\"module\",\"hashbang\":null}\n,\"fixes\":[]}";
+
+// A text of 27 bytes.
+pub(crate) const TEXT: &[u8] = b"{\"node\":\n{\"type\":\"Program\"}";
