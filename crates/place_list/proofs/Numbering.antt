@@ -10,7 +10,7 @@ use Rattle.place_list.specs.Names.{TellsApart}
 use Rattle.place_list.specs.TableViews.{entry_view}
 use Rattle.place_list.specs.declared.tables.PlaceEntry.{PlaceEntry}
 use Rattle.tree_nodes.specs.Tree.{Text}
-use Rattle.tree_places.proofs.Runs.{AllOf-push}
+use Rattle.list_laws.proofs.AllOf.{AllOf_push}
 
 -- ---- one name gets the next number
 
@@ -100,7 +100,7 @@ pub one_number_more : (f : Text → Option ℕ) (es : List PlaceEntry) (i : ℕ)
     → HaveNumbers f (take (i + 1) (slice_set es i (record { node = x.node; start = x.start; private = x.private; setting = x.setting; name = x.name; name_number = k })))
 one_number_more f es i x k h a e =
     let y : PlaceEntry = record { node = x.node; start = x.start; private = x.private; setting = x.setting; name = x.name; name_number = k } in
-    subst (HaveNumbers f) (sym (take_more_set es i y h)) (AllOf-push (λ (z : PlaceEntry). f z.name.now ≡ Some z.name_number) (take i es) y a e)
+    subst (HaveNumbers f) (sym (take_more_set es i y h)) (AllOf_push (λ (z : PlaceEntry). f z.name.now ≡ Some z.name_number) (take i es) y a e)
 
 pub all_numbered : (f : Text → Option ℕ) (es : List PlaceEntry) (i : ℕ) → length es ≤ i → HaveNumbers f (take i es) → HaveNumbers f es
 all_numbered f es i h a = subst (HaveNumbers f) (take_all i es h) a

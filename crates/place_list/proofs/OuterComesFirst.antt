@@ -6,7 +6,7 @@ use Rattle.place_list.proofs.NumbersStand.{Grows, Stands, grows_push, grows_on, 
 use Rattle.place_list.specs.Bounds.{ComesBefore, IsBelow}
 use Rattle.place_list.specs.Tables.{head_lists, heads_from, lineages, lineages_from, list_at}
 use Rattle.place_list.specs.declared.tables.HeadEntry.{HeadEntry}
-use Rattle.tree_places.proofs.Runs.{AllOf-push}
+use Rattle.list_laws.proofs.AllOf.{AllOf_push}
 
 -- from the number i on
 pub RiseFrom : ℕ → List (Option ℕ) → Type 0
@@ -75,7 +75,7 @@ heads_stay os o [] a = tt
 heads_stay os o (h ∷ hs) a = (let e : length (os ++ o ∷ []) ≡ length os + 1 = length-append os (o ∷ []) in omega (arith, e, a.0), heads_stay os o hs a.1)
 
 pub head_joins : (os : List (Option ℕ)) (hs : List HeadEntry) (h : HeadEntry) → AreHeads os hs → h.scope < length os → AreHeads os (hs ++ h ∷ [])
-head_joins os hs h a b = AllOf-push (λ (g : HeadEntry). g.scope < length os) hs h a b
+head_joins os hs h a b = AllOf_push (λ (g : HeadEntry). g.scope < length os) hs h a b
 
 -- ---- what an entry's number stands for: its own number before the list of the number outside
 
