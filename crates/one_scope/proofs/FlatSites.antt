@@ -1,9 +1,7 @@
 -- What a flat site is to names: it lies in the one scope, and its role says the rest.
-use Rattle.std.specs.List.{list_any}
-use Rattle.std.specs.Prelude.{◌≡◌, Bool, true, false, cond, not, ◌&&◌, List, [], ◌∷◌}
+use Rattle.std.specs.Prelude.{◌≡◌, Bool, true, false, cond, not, ◌&&◌, [], ◌∷◌}
 use Rattle.std.proofs.Common.{refl, ap, ◌∙◌}
 use Rattle.std.proofs.lemmas.Bool.{both_ways}
-use Rattle.list_laws.proofs.Members.{In}
 use Rattle.tree_nodes.specs.declared.table.Declared.{Declared}
 use Rattle.tree_nodes.specs.declared.table.Declared.TheVariants.{Class, ClassName, Const, Function, FunctionName, Let, Var}
 use Rattle.tree_nodes.specs.declared.table.Role.{Role}

@@ -1,8 +1,7 @@
 -- The names that the slots get.
 use Rattle.std.specs.List.{position_from}
-use Rattle.std.specs.Prelude.{◌≡◌, ◌≤◌, ◌<◌, ℕ, zero, suc, ◌+◌, Bool, true, false, List, [], ◌∷◌, ◌++◌, length, get_or, map, Option, Some, None, bytes_eq, slice_get, IfSome}
+use Rattle.std.specs.Prelude.{◌≡◌, ◌≤◌, ◌<◌, ℕ, suc, ◌+◌, Bool, List, [], ◌∷◌, ◌++◌, length, get_or, map, Option, Some, None, bytes_eq, slice_get, IfSome}
 use Rattle.std.proofs.Common.{refl, sym, ap, ◌∙◌, subst, arith}
-use Rattle.std.proofs.lemmas.Bool.{both_ways}
 use Rattle.std.proofs.lemmas.List.{length-append, length-map}
 use Rattle.std.proofs.lemmas.Option.{slice_get-get_or}
 use Rattle.syntax_lex.specs.Keyword.{reserved_keywords}
@@ -13,7 +12,7 @@ use Rattle.scope_rules.specs.Evals.{name_eval}
 use Rattle.name_rules.proofs.CountFrom.{slot_names_length}
 use Rattle.name_rules.proofs.FirstUntaken.{candidate_one, enough_untaken, first_untaken_same}
 use Rattle.name_rules.specs.FreeNames.{first_untaken}
-use Rattle.name_rules.specs.GivenNames.{count_from, slot_names}
+use Rattle.name_rules.specs.GivenNames.{slot_names}
 use Rattle.name_rules.specs.Kept.{name_arguments}
 use Rattle.name_rules.specs.Options.{Options}
 use Rattle.name_rules.specs.ShortNames.{candidate}

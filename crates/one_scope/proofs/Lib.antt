@@ -3,7 +3,6 @@ pub mod WalkInner
 pub mod WalkSteps
 pub mod WalkPlaces
 pub mod WalkFlat
-
 -- flat trees: the plain definitions say what the general ones do
 pub mod FlatSites
 pub mod FlatFaults
@@ -13,7 +12,6 @@ pub mod FlatOwners
 pub mod FlatSlots
 pub mod FlatNames
 pub mod FlatTrees
-
 -- the analysis, a pass at a time
 pub mod Texts
 pub mod Clashes

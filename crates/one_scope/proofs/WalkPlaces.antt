@@ -8,14 +8,12 @@ use Rattle.tree_nodes.specs.Table.{Column, row, unlisted}
 use Rattle.tree_nodes.specs.Tree.{Parts, Text, atom, child, done, flag, flag_of, many, part, text_of}
 use Rattle.tree_nodes.specs.declared.kind.Kind.{Kind}
 use Rattle.tree_nodes.specs.declared.kind.Kind.TheVariants.{Identifier, PrivateIdentifier, Property}
-use Rattle.tree_nodes.specs.declared.table.Mark.{Mark}
-use Rattle.tree_nodes.specs.declared.table.Mark.TheVariants.{Usual}
 use Rattle.tree_nodes.specs.declared.table.Opens.{Opens}
 use Rattle.tree_nodes.specs.declared.table.Opens.TheVariants.{NameHere, PrivateNameHere}
 use Rattle.tree_nodes.specs.declared.table.Role.{Role}
 use Rattle.tree_nodes.specs.declared.table.Role.TheVariants.{Plain, Read}
 use Rattle.tree_places.proofs.MarkedSettings.{mark_keeps_role}
-use Rattle.tree_places.specs.Places.{Around, Seen, Setting, Site, at_field, before_all, enter, hide, is_place, met, named_by, names, nothing_yet, sites, unmarked, walk, with_mark}
+use Rattle.tree_places.specs.Places.{Around, Seen, Setting, Site, at_field, before_all, enter, hide, is_place, met, named_by, names, nothing_yet, sites, unmarked, walk}
 use Rattle.tree_places.specs.Scopes.{Scope}
 use Rattle.one_scope.specs.Entries.{Entry, entries, entry_of}
 use Rattle.one_scope.specs.Listing.{Listing, list_run, list_under, meet, nothing_listed}
