@@ -5,14 +5,10 @@ use mangle_tool::estree::{MangleError, mangle_estree};
 use std::alloc::{AllocError, Global};
 use std::test::Fail;
 
-// Whether the module has an answer without the first of these fields.
-fn has_answer_without(alloc: Global, field: &str) -> Result<bool, MangleError> {
+// Why the module has no answer without the first of these fields, if it has none.
+fn error_without(alloc: Global, field: &str) -> Result<Option<MangleError>, AllocError> {
     let rest = LET_MODULE.replacen(alloc, field, "", 1)?;
-    match mangle_estree(alloc, rest.as_bytes()) {
-        Ok(_) => Ok(true),
-        Err(MangleError::BadTree) => Ok(false),
-        Err(error) => Err(error),
-    }
+    Ok(mangle_estree(alloc, rest.as_bytes()).err())
 }
 
 #[test]
@@ -47,7 +43,12 @@ fn fields_may_be_left_out_or_not(rt: HostRuntime) -> Result<(), Fail> {
         ("\"value\":1,", true),
         (",\"raw\":\"1\"", true),
     ] {
-        assert_eq!(rt; has_answer_without(rt.alloc(), field)?, is_tree, "without {field}");
+        let error = error_without(rt.alloc(), field)?;
+        assert_eq!(rt;
+            error,
+            (!is_tree).then_some(MangleError::BadTree),
+            "without {field}"
+        );
     }
     Ok(())
 }

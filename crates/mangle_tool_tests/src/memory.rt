@@ -27,6 +27,10 @@ fn reads_up_to_the_limit(rt: HostRuntime) {
     }
 }
 
+fn read(alloc: Global, source: &mut MemorySource<'_>) -> Result<Vec<u8>, ReadAllError> {
+    read_all(alloc, source, 100)
+}
+
 // The error of a first reading of `text` in pieces of 8 bytes, where this call fails, and what is read then.
 fn read_on(
     alloc: Global,
@@ -35,9 +39,9 @@ fn read_on(
 ) -> Result<(Option<ReadAllError>, Vec<u8>), ReadAllError> {
     let fails = [call];
     let mut source = MemorySource::new(text.as_bytes(), 8, &fails);
-    match read_all(alloc, &mut source, 100) {
+    match read(alloc, &mut source) {
         Ok(bytes) => Ok((None, bytes)),
-        Err(error) => Ok((Some(error), read_all(alloc, &mut source, 100)?)),
+        Err(error) => Ok((Some(error), read(alloc, &mut source)?)),
     }
 }
 
@@ -82,7 +86,10 @@ fn a_sink_fails_in_the_listed_calls_and_where_it_is_full(rt: HostRuntime) -> Res
         (100, 2, Err(Failed), "{\"node\":\n{\"type\":\"Program\"}"),
         (9, 3, Err(Failed), "{\"node\":\n"),
     ] {
-        assert!(rt; is_written(rt.alloc(), (room, call), outcome, held)?, "room {room}, call {call}");
+        assert!(rt;
+            is_written(rt.alloc(), (room, call), outcome, held)?,
+            "room {room}, call {call}"
+        );
     }
     Ok(())
 }

@@ -22,11 +22,15 @@ const PROGRAM: &str = "{\"type\":\"Program\",\"body\":[BODY],\"sourceType\":\"TY
 // and `let x = y;`, and so on for each kind of declaration.
 fn statement(alloc: Global, word: &str) -> Result<String, AllocError> {
     let (form, name) = word.split_once(':').unwrap_or(("read", word));
-    match (form, name.split_once('=')) {
-        ("read", _) => READ.replace(alloc, "NAME", name),
-        ("call", _) => CALL.replace(alloc, "NAME", name),
-        (_, None) => declaration(alloc, form, name),
-        (_, Some((name, value))) => definition(alloc, form, name, value),
+    if form == "read" {
+        return READ.replace(alloc, "NAME", name);
+    }
+    if form == "call" {
+        return CALL.replace(alloc, "NAME", name);
+    }
+    match name.split_once('=') {
+        Some((name, value)) => definition(alloc, form, name, value),
+        None => declaration(alloc, form, name),
     }
 }
 
@@ -35,12 +39,7 @@ fn declaration(alloc: Global, form: &str, name: &str) -> Result<String, AllocErr
     text.as_str().replace(alloc, "NAME", name)
 }
 
-fn definition(
-    alloc: Global,
-    form: &str,
-    name: &str,
-    value: &str,
-) -> Result<String, AllocError> {
+fn definition(alloc: Global, form: &str, name: &str, value: &str) -> Result<String, AllocError> {
     let text = DEFINITION.replace(alloc, "FORM", form)?;
     let text = text.as_str().replace(alloc, "VALUE", value)?;
     text.as_str().replace(alloc, "NAME", name)

@@ -12,12 +12,7 @@ const TWICE_DECLARED: &str =
     "{\"type\":\"Program\",\"body\":[{\"type\":\"VariableDeclaration\",\"kind\":\"let\",\"declarations\":[{\"type\":\"VariableDeclarator\",\"id\":{\"type\":\"Identifier\",\"name\":\"x\"}},{\"type\":\"VariableDeclarator\",\"id\":{\"type\":\"Identifier\",\"name\":\"x\"}}]}],\"sourceType\":\"module\"}";
 
 // Whether a run over this input ends so, with this text in the sink.
-fn ends_as(
-    alloc: Global,
-    input: &str,
-    status: Status,
-    written: &str,
-) -> Result<bool, AllocError> {
+fn ends_as(alloc: Global, input: &str, status: Status, written: &str) -> Result<bool, AllocError> {
     let mut source = SliceSource::new(input.as_bytes());
     let mut sink = MemorySink::with_room(alloc, 106, 106, &[])?;
     let ended = run(alloc, &mut source, &mut sink);
@@ -86,7 +81,10 @@ fn runs_end_by_a_failing_write(rt: HostRuntime) -> Result<(), Fail> {
         (40, 99, Status::WriteFault, 40),
         (106, 99, Status::Done, 106),
     ] {
-        assert!(rt; ends_by_write(rt.alloc(), (room, call), status, held)?, "room {room}, call {call}");
+        assert!(rt;
+            ends_by_write(rt.alloc(), (room, call), status, held)?,
+            "room {room}, call {call}"
+        );
     }
     Ok(())
 }
