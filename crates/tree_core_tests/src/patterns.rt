@@ -1,80 +1,17 @@
-//! Which names some patterns and declarations bind.
+//! Which names declarations bind, and the patterns in them.
 
+use crate::texts::{module, read};
 use std::alloc::{AllocError, Global};
 use std::test::Fail;
-use tree_nodes::{Field, FieldList, Kind, Node, NodeList, TreeText};
+use tree_core::Program;
+use tree_nodes::{Field, Node};
 use tree_patterns::{
     bound_names, bound_names_are_declared, bound_names_are_identifiers, bound_names_by_kind,
 };
 
-fn node(kind: Kind, fields: Vec<Field>) -> Node {
-    Node {
-        kind,
-        start: 0,
-        end: 0,
-        fields: FieldList::from_vec(fields),
-    }
-}
-
-fn child(alloc: Global, node: Node) -> Result<Field, AllocError> {
-    Ok(Field::Child(Box::new(alloc, node)?))
-}
-
-fn list(items: Vec<Option<Node>>) -> Field {
-    Field::List(NodeList::from_vec(items))
-}
-
-fn identifier(alloc: Global, name: &str) -> Result<Node, AllocError> {
-    let text = TreeText::from_string(String::from_str(alloc, name)?);
-    Ok(node(Kind::Identifier, vec![in alloc; Field::Text(text)]?))
-}
-
-fn array_pattern(alloc: Global, elements: Vec<Option<Node>>) -> Result<Node, AllocError> {
-    Ok(node(Kind::ArrayPattern, vec![in alloc; list(elements)]?))
-}
-
-fn object_pattern(alloc: Global, property: Node) -> Result<Node, AllocError> {
-    let properties = list(vec![in alloc; Some(property)]?);
-    Ok(node(Kind::ObjectPattern, vec![in alloc; properties]?))
-}
-
-fn property(
-    alloc: Global,
-    key: Node,
-    value: Node,
-    shorthand: bool,
-    computed: bool,
-) -> Result<Node, AllocError> {
-    let key = child(alloc, key)?;
-    let value = child(alloc, value)?;
-    Ok(node(
-        Kind::Property,
-        vec![in alloc;
-            Field::Word(0),
-            key,
-            value,
-            Field::Flag(false),
-            Field::Flag(shorthand),
-            Field::Flag(computed),
-        ]?,
-    ))
-}
-
-// A node of two fields that are nodes, or of one.
-fn pair(alloc: Global, kind: Kind, left: Node, right: Node) -> Result<Node, AllocError> {
-    let left = child(alloc, left)?;
-    let right = child(alloc, right)?;
-    Ok(node(kind, vec![in alloc; left, right]?))
-}
-
-fn rest(alloc: Global, argument: Node) -> Result<Node, AllocError> {
-    let argument = child(alloc, argument)?;
-    Ok(node(Kind::RestElement, vec![in alloc; argument]?))
-}
-
 // The names that a node binds, in a row.
-fn spelled(alloc: Global, pattern: &Node) -> Result<String, AllocError> {
-    let names = bound_names(alloc, pattern)?;
+fn spelled(alloc: Global, node: &Node) -> Result<String, AllocError> {
+    let names = bound_names(alloc, node)?;
     let mut text = String::new(alloc);
     for i in 0..names.len() {
         if let Some(Field::Text(name)) = names.get(i).and_then(|n| n.fields.get(0)) {
@@ -84,119 +21,51 @@ fn spelled(alloc: Global, pattern: &Node) -> Result<String, AllocError> {
     Ok(text)
 }
 
-// `[a, , { b }]`
-#[test]
-fn elements_are_bound_past_holes(rt: HostRuntime) -> Result<(), Fail> {
-    let alloc = rt.alloc();
-    let short = property(
-        alloc,
-        identifier(alloc, "b")?,
-        identifier(alloc, "b")?,
-        true,
-        false,
-    )?;
-    let inner = object_pattern(alloc, short)?;
-    let pattern = array_pattern(
-        alloc,
-        vec![in alloc; Some(identifier(alloc, "a")?), None, Some(inner)]?,
-    )?;
-    assert_eq!(rt; spelled(alloc, &pattern)?.as_str(), "ab");
-    let names = bound_names(alloc, &pattern)?;
-    assert_eq!(rt; names.len(), 2);
-    assert!(rt; names.get(2).is_none());
-    Ok(())
-}
-
-// `{ a: [b = c, ...d] }` and `{ [a]: [b = c, ...d] }`
-#[test]
-fn keys_and_defaults_are_not_bound(rt: HostRuntime) -> Result<(), Fail> {
-    let alloc = rt.alloc();
-    for computed in [false, true] {
-        let with_default = pair(
-            alloc,
-            Kind::AssignmentPattern,
-            identifier(alloc, "b")?,
-            identifier(alloc, "c")?,
-        )?;
-        let others = rest(alloc, identifier(alloc, "d")?)?;
-        let value = array_pattern(alloc, vec![in alloc; Some(with_default), Some(others)]?)?;
-        let key = identifier(alloc, "a")?;
-        let pattern = object_pattern(alloc, property(alloc, key, value, false, computed)?)?;
-        assert_eq!(rt; spelled(alloc, &pattern)?.as_str(), "bd");
+fn first_statement(program: &Program) -> Option<&Node> {
+    match program.root().fields.get(0) {
+        Some(Field::List(body)) => match body.get(0) {
+            Some(Some(node)) => Some(node),
+            _ => None,
+        },
+        _ => None,
     }
-    Ok(())
 }
 
-// `let a = b, [c] = d`
-#[test]
-fn declarators_bind(rt: HostRuntime) -> Result<(), Fail> {
-    let alloc = rt.alloc();
-    let inner = array_pattern(alloc, vec![in alloc; Some(identifier(alloc, "c")?)]?)?;
-    let first = pair(
-        alloc,
-        Kind::VariableDeclarator,
-        identifier(alloc, "a")?,
-        identifier(alloc, "b")?,
-    )?;
-    let second = pair(
-        alloc,
-        Kind::VariableDeclarator,
-        inner,
-        identifier(alloc, "d")?,
-    )?;
-    let declarators = list(vec![in alloc; Some(first), Some(second)]?);
-    let declaration = node(
-        Kind::VariableDeclaration,
-        vec![in alloc; Field::Word(1), declarators]?,
-    );
-    assert_eq!(rt; spelled(alloc, &declaration)?.as_str(), "ac");
-    Ok(())
+fn bound_by(alloc: Global, statement: &str) -> Result<String, Fail> {
+    let text = module(alloc, statement)?;
+    let program = read(alloc, text.as_str(), 0)?.ok().ok_or("a program")?;
+    let node = first_statement(&program).ok_or("a statement")?;
+    Ok(spelled(alloc, node)?)
 }
 
-// `function f(a) {}` and the same as an expression
 #[test]
-fn functions_bind_their_names(rt: HostRuntime) -> Result<(), Fail> {
-    let alloc = rt.alloc();
-    for (kind, wanted) in [
-        (Kind::FunctionDeclaration, "f"),
-        (Kind::FunctionExpression, ""),
+fn declarations_bind(rt: HostRuntime) -> Result<(), Fail> {
+    for (statement, wanted) in [
+        // `let a = b, [c, , ...d] = a`
+        (
+            "{'type':'VariableDeclaration','kind':'let','declarations':[{'type':'VariableDeclarator','id':@,'init':{'type':'Identifier','name':'b'}},{'type':'VariableDeclarator','id':{'type':'ArrayPattern','elements':[{'type':'Identifier','name':'c'},null,{'type':'RestElement','argument':{'type':'Identifier','name':'d'}}]},'init':@}]}",
+            "acd",
+        ),
+        // `let { a: b = c, [a]: d } = a`
+        (
+            "{'type':'VariableDeclaration','kind':'let','declarations':[{'type':'VariableDeclarator','id':{'type':'ObjectPattern','properties':[{'type':'Property','kind':'init','key':@,'value':{'type':'AssignmentPattern','left':{'type':'Identifier','name':'b'},'right':{'type':'Identifier','name':'c'}}},{'type':'Property','kind':'init','computed':true,'key':@,'value':{'type':'Identifier','name':'d'}}]},'init':@}]}",
+            "bd",
+        ),
+        // `function f(a) {}`
+        (
+            "{'type':'FunctionDeclaration','id':{'type':'Identifier','name':'f'},'params':[@],'body':{'type':'BlockStatement','body':[]}}",
+            "f",
+        ),
+        // `class A extends a {}`
+        (
+            "{'type':'ClassDeclaration','id':{'type':'Identifier','name':'A'},'superClass':@,'body':{'type':'ClassBody','body':[]}}",
+            "A",
+        ),
+        // `a`
+        ("{'type':'ExpressionStatement','expression':@}", ""),
     ] {
-        let id = child(alloc, identifier(alloc, "f")?)?;
-        let params = list(vec![in alloc; Some(identifier(alloc, "a")?)]?);
-        let statements = list(Vec::new(alloc));
-        let body = child(
-            alloc,
-            node(Kind::BlockStatement, vec![in alloc; statements]?),
-        )?;
-        let function = node(
-            kind,
-            vec![in alloc;
-                id,
-                Field::Flag(false),
-                Field::Flag(false),
-                params,
-                body,
-                Field::Flag(false),
-            ]?,
-        );
-        assert_eq!(rt; spelled(alloc, &function)?.as_str(), wanted);
+        assert_eq!(rt; bound_by(rt.alloc(), statement)?.as_str(), wanted);
     }
-    Ok(())
-}
-
-// `class A extends B {}`
-#[test]
-fn classes_bind_their_names(rt: HostRuntime) -> Result<(), Fail> {
-    let alloc = rt.alloc();
-    let id = child(alloc, identifier(alloc, "A")?)?;
-    let super_class = child(alloc, identifier(alloc, "B")?)?;
-    let members = list(Vec::new(alloc));
-    let body = child(alloc, node(Kind::ClassBody, vec![in alloc; members]?))?;
-    let class = node(
-        Kind::ClassDeclaration,
-        vec![in alloc; id, super_class, body]?,
-    );
-    assert_eq!(rt; spelled(alloc, &class)?.as_str(), "A");
     Ok(())
 }
 
