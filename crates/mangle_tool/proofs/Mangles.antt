@@ -13,7 +13,7 @@ use Rattle.one_scope.specs.OneScope.{IsFlat, IsFlatTree, is_flat_role, is_one_sc
 use Rattle.one_scope.specs.Open.{all_open}
 use Rattle.name_rules.proofs.Bounds.{names_are_bounded}
 use Rattle.name_rules.proofs.Identifiers.{short_names_are_identifiers}
-use Rattle.name_rules.proofs.Fewest.{count-length}
+use Rattle.name_rules.proofs.CountFrom.{count_length}
 use Rattle.name_rules.proofs.Mangling as mangling
 use Rattle.name_rules.specs.GivenNames.{count_from, is_before, names_of_slots, slot_name}
 use Rattle.name_rules.specs.MangledLaws.{HasNewNames}
@@ -33,10 +33,10 @@ use Rattle.tree_places.proofs.Numbers.{one_name_each}
 use Rattle.tree_places.proofs.TreesRooted as rooted
 use Rattle.tree_places.specs.Places.{Site, is_place, named_by, names, places, sites}
 use Rattle.tree_places.specs.Renaming.{IsRenamed, is_plain}
-use Rattle.tree_rename.specs.Chosen.{chosen, given_name, or_own, spare_plain}
+use Rattle.tree_places.specs.Chosen.{chosen, given_name, or_own, spare_plain}
 use Rattle.tree_nodes.specs.declared.table.Role.{Role}
 use Rattle.tree_nodes.specs.declared.table.Role.TheVariants.{MemberKey, Plain}
-use Rattle.scope_rules.proofs.Lists.{In, contains_from_in}
+use Rattle.list_laws.proofs.Members.{In, contains_from_in}
 use Rattle.scope_rules.specs.Bindings.{same_name}
 use Rattle.scope_rules.specs.Faults.{has_fault}
 
@@ -103,7 +103,7 @@ names_long o es =
     let owners : List Text = slot_owners o es in
     let weights : List ℕ = map (flat_weight es) owners in
     length-map (count_from (length weights) 0) (slot_name (flat_free_names o es owners) (map (λ r. length (get_or (flat_free_names o es owners) r [])) (map (λ k. length (filter (λ j. is_before weights j k) (count_from (length weights) 0))) (count_from (length weights) 0))) (count_from (length weights) 0))
-    ∙ count-length (length weights) 0 ∙ length-map owners (flat_weight es)
+    ∙ count_length (length weights) 0 ∙ length-map owners (flat_weight es)
 
 not_plain : (s : Site) → IsFlat s → is_plain s ≡ false
 unfolding all_open

@@ -6,7 +6,7 @@ use Rattle.tree_nodes.specs.Tree.{Parts, Text, atom, child, done, many, text, te
 use Rattle.tree_nodes.specs.declared.kind.Kind.{Kind}
 use Rattle.tree_nodes.specs.declared.kind.Kind.TheVariants.{Identifier, PrivateIdentifier}
 use Rattle.tree_places.specs.Places.{is_place, names}
-use Rattle.tree_rename.specs.Chosen.{chosen, given_name, or_own}
+use Rattle.tree_places.specs.Chosen.{chosen, given_name, or_own}
 use Rattle.tree_rename.specs.Formed.{AreFormed, HasText, IsFormed}
 use Rattle.tree_rename.specs.Renamed.{after, count, finished, has_name, inner, named, renamed}
 use Rattle.tree_rename.proofs.OwnFirst.{length_own, one_more, with_own}

@@ -14,7 +14,7 @@ use Rattle.tree_nodes.specs.declared.kind.Kind.{Kind}
 use Rattle.tree_nodes.specs.declared.kind.Kind.TheVariants.{Identifier, PrivateIdentifier, Property}
 use Rattle.tree_places.specs.Places.{hide, names, sites, unmarked, unnamed}
 use Rattle.tree_places.specs.Renaming.{IsRenamed, blind}
-use Rattle.tree_rename.specs.Chosen.{chosen, given_name, or_own, spare_plain}
+use Rattle.tree_places.specs.Chosen.{chosen, given_name, or_own, spare_plain}
 use Rattle.tree_rename.specs.Formed.{AreFormed}
 use Rattle.tree_rename.specs.Renamed.{renamed}
 use Rattle.tree_rename.specs.Laws.{IsName, RenamedProgramsArePrograms}

@@ -5,7 +5,7 @@ use Rattle.tree_nodes.specs.Tree.{Parts, Text}
 use Rattle.tree_places.proofs.Blind.{seen-blind}
 use Rattle.tree_places.specs.Places.{Site, names, seen, sites}
 use Rattle.tree_places.specs.Renaming.{IsRenamed, blind, is_plain, plain_names}
-use Rattle.tree_rename.specs.Chosen.{chosen, given_name, or_own, spare_plain}
+use Rattle.tree_places.specs.Chosen.{chosen, given_name, or_own, spare_plain}
 use Rattle.tree_rename.specs.Formed.{AreFormed}
 use Rattle.tree_rename.specs.Renamed.{renamed}
 use Rattle.tree_rename.proofs.RenamedAlike.{renamed_alike}

@@ -1,4 +1,3 @@
-pub mod Chosen
 pub mod Renamed
 pub mod Formed
 pub mod Laws

@@ -4,7 +4,7 @@ use Rattle.tree_nodes.specs.Standing.{own_name}
 use Rattle.tree_nodes.specs.Tree.{Parts, Text, atom, child, done, flag, many, part, text}
 use Rattle.tree_nodes.specs.declared.kind.Kind.{Kind}
 use Rattle.tree_nodes.specs.declared.kind.Kind.TheVariants.{Identifier, PrivateIdentifier, Property}
-use Rattle.tree_rename.specs.Chosen.{given_name, or_own}
+use Rattle.tree_places.specs.Chosen.{given_name, or_own}
 
 -- a kind whose nodes are places
 unfoldable pub has_name : Kind → Bool

@@ -7,7 +7,7 @@ ghost use Rattle.tree_core.specs.Program.{IsProgram};
 ghost use Rattle.tree_nodes.specs.Tree.{alone};
 ghost use Rattle.tree_places.specs.Places.{names as names_of, sites};
 ghost use Rattle.tree_places.specs.Renaming.{IsRenamed};
-ghost use Rattle.tree_rename.specs.Chosen.{chosen, spare_plain};
+ghost use Rattle.tree_places.specs.Chosen.{chosen, spare_plain};
 ghost use Rattle.tree_rename.specs.Formed.{AreFormed};
 
 use crate::walk::rename_node;

@@ -4,7 +4,7 @@
 ghost use Rattle.std.specs.Prelude.{◌≡◌, IfOk, drop, map, string_bytes, option_map};
 ghost use Rattle.tree_nodes.specs.Tree.{alone};
 ghost use Rattle.tree_nodes.specs.Views.{part_of, parts_of, item_of, items_of};
-ghost use Rattle.tree_rename.specs.Chosen as chosen;
+ghost use Rattle.tree_places.specs.Chosen as chosen;
 ghost use Rattle.tree_rename.specs.Renamed as spec;
 ghost use Rattle.tree_rename.specs.Renamed.{count, renamed};
 
@@ -35,7 +35,7 @@ fn inner(kind: Kind, choices: &[Option<u32>]) -> &[Option<u32>]
 }
 
 // The name that the first choice gives.
-#[tactic(auto, unfolding(crate::specs::Chosen::given_name))]
+#[tactic(auto, unfolding(tree_places::specs::Chosen::given_name))]
 fn given_name<'n>(names: &'n [String], choices: &[Option<u32>]) -> Option<&'n String>
     ensures { option_map (λ s. string_bytes s.now) result
         ≡ chosen.given_name (map string_bytes names.now) choices.now }
@@ -47,7 +47,7 @@ fn given_name<'n>(names: &'n [String], choices: &[Option<u32>]) -> Option<&'n St
 }
 
 // Gives a place its name, where it gets one.
-#[tactic(auto, unfolding(crate::specs::Renamed::named, crate::specs::Chosen::or_own))]
+#[tactic(auto, unfolding(crate::specs::Renamed::named, tree_places::specs::Chosen::or_own))]
 fn give_name(alloc: Global, fields: &mut [Field], name: Option<&String>) -> Result<(), AllocError>
     ensures { IfOk result (λ u. parts_of fields.new
         ≡ spec.named (option_map (λ s. string_bytes s.now) name.entry) (parts_of fields.old)) }

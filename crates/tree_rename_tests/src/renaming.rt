@@ -93,7 +93,7 @@ fn names_are_given_and_shorthands_end(rt: HostRuntime) -> Result<(), Fail> {
 }
 
 #[test]
-#[tactic(auto, unfolding(tree_rename::specs::Chosen::spare_plain))]
+#[tactic(auto, unfolding(tree_places::specs::Chosen::spare_plain))]
 fn a_program_keeps_its_source_type(rt: HostRuntime) -> Result<(), Fail> {
     let alloc = rt.alloc();
     let value = Value::from_str(

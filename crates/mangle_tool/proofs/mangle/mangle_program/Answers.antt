@@ -1,7 +1,7 @@
 use Rattle.std.proofs.Common.{map, string_bytes, ap, ap₂, ◌∙◌}
 use Rattle.tree_nodes.specs.Tree.{alone}
 use Rattle.tree_places.specs.Places.{names}
-use Rattle.tree_rename.specs.Chosen.{chosen}
+use Rattle.tree_places.specs.Chosen.{chosen}
 use Rattle.mangle_tool.proofs.Mangles.{given_names_fit, mangles, spare}
 use Rattle.mangle_tool.proofs.mangle.mangle_program.Goals as goal
 
