@@ -1,12 +1,13 @@
 -- In a tree that fits the node table, and whose nodes stand where they may, each function expression has one Identifier as its
 -- name, or none: its first field is null or one node, and that node is an Identifier.
 use Rattle.std.specs.Prelude.{◌≡◌, ℕ, Bool, true, false, not, ◌||◌, List, [], ◌∷◌, None, nat_eq}
-use Rattle.std.proofs.Common.{refl, sym, ap, ◌∙◌}
-use Rattle.std.proofs.lemmas.Bool.{and_parts, and_from, eqb-true}
+use Rattle.std.proofs.Common.{refl, ap, ◌∙◌}
+use Rattle.std.proofs.lemmas.Bool.{and_parts, and_from}
 use Rattle.json_text.specs.Json.{null}
 use Rattle.tree_core.proofs.Fits.{FitFields, FitItems, Fits, TakesList}
+use Rattle.tree_nodes.proofs.EachKind.{kind_told}
 use Rattle.tree_nodes.specs.Along.{all, each}
-use Rattle.tree_nodes.specs.Kinds.{kind_at, kind_at-kind_number, kind_number}
+use Rattle.tree_nodes.specs.Kinds.{kind_number}
 use Rattle.tree_nodes.specs.Standing.{is_placed, root_column, stands}
 use Rattle.tree_nodes.specs.Table.{Column, row}
 use Rattle.tree_nodes.specs.Tree.{Parts, Tree, alone, atom, child, done, many}
@@ -19,9 +20,6 @@ use Rattle.tree_nodes.specs.declared.table.Role.{Role}
 use Rattle.tree_nodes.specs.declared.table.Role.TheVariants.{Plain}
 use Rattle.scope_rules.specs.FunctionNames.{begins_with_name, is_function_expression, is_identifier_kind, names_functions_once}
 use Rattle.scope_rules.specs.Open.{all_open}
-
-kind_told : (k l : Kind) → nat_eq (kind_number k) (kind_number l) ≡ true → k ≡ l
-kind_told k l h = sym (kind_at-kind_number k) ∙ ap kind_at (eqb-true (kind_number k) (kind_number l) h) ∙ kind_at-kind_number l
 
 -- a field of null or one node is no list
 no_list : (g : Group) (holes : Bool) → TakesList (Maybe g) holes → ⊥

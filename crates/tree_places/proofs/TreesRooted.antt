@@ -1,11 +1,11 @@
 -- In a tree whose nodes stand where they may, each place lies in a var scope: in that of the Program, at least.
-use Rattle.std.specs.Prelude.{◌≡◌, ℕ, Bool, true, false, cond, ◌&&◌, nat_eq, List, [], ◌∷◌, length, reverse}
+use Rattle.std.specs.Prelude.{◌≡◌, ℕ, Bool, true, false, cond, ◌&&◌, List, [], ◌∷◌, length, reverse}
 use Rattle.std.proofs.Common.{refl, sym, ap, ◌∙◌, subst}
-use Rattle.std.proofs.lemmas.Bool.{and_parts, both_ways, eqb-true}
+use Rattle.std.proofs.lemmas.Bool.{and_parts, both_ways}
 use Rattle.std.proofs.lemmas.Grind.{reverse_onto}
 use Rattle.list_laws.proofs.AllOf.{AllOf, AllOf_push}
+use Rattle.tree_nodes.proofs.EachKind.{kind_told}
 use Rattle.tree_nodes.specs.Along.{Along, all, each, first_column, other_columns}
-use Rattle.tree_nodes.specs.Kinds.{kind_at, kind_at-kind_number, kind_number}
 use Rattle.tree_nodes.specs.Roles.{role_at}
 use Rattle.tree_nodes.specs.Standing.{group_admits, is_placed, is_sound, root_column, stands}
 use Rattle.tree_nodes.specs.Table.{Column, row, unlisted}
@@ -165,9 +165,6 @@ hashbang_there (child k b st fields more) columns a s own within f h =
     ∙ in_hashbang k q b fields around here around.inside.scope s r two.1
 
 -- ---- a Program
-
-kind_told : (k l : Kind) → nat_eq (kind_number k) (kind_number l) ≡ true → k ≡ l
-kind_told k l h = sym (kind_at-kind_number k) ∙ ap kind_at (eqb-true (kind_number k) (kind_number l) h) ∙ kind_at-kind_number l
 
 -- the second and the third field
 abbrev later_columns : List Column
