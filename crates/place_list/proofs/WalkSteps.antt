@@ -1,18 +1,17 @@
 -- The walk in tables, at one step of its loops.
-use Rattle.std.proofs.Common.{◌≡◌, ℕ, zero, suc, ◌+◌, Bool, true, List, [], ◌∷◌, drop, length, map, slice_get, Option, Some, None, Result, Ok, Err, IfOk, refl, sym, ap, ◌∙◌, arith}
+use Rattle.std.proofs.Common.{◌≡◌, ℕ, zero, suc, ◌+◌, Bool, true, List, [], ◌∷◌, drop, length, Option, Some, None, Result, Ok, Err, IfOk, refl, sym, ap, ◌∙◌, arith}
 use Rattle.place_list.specs.Open.{all_open}
 use Rattle.place_list.specs.ScopeKinds.{scope_kind, value_scope}
 use Rattle.place_list.specs.TableWalk.{Around, State, after_field, at_field, enter, inside_of, listed_node, met, nothing_met, nowhere, put_scope, tables_of, walk}
 use Rattle.place_list.specs.declared.setting.ScopeKind.{ScopeKind}
 use Rattle.place_list.specs.declared.setting.ScopeKind.TheVariants as scope
 use Rattle.place_list.specs.declared.setting.Setting.{Setting}
+use Rattle.tree_nodes.proofs.ColumnsAlong.{other_drop}
 use Rattle.tree_nodes.specs.Along.{Along, all, each, first_column, other_columns}
 use Rattle.tree_nodes.specs.Look.{are_items, item_at, onto, part_at, past}
-use Rattle.tree_nodes.specs.Rows.{column_of}
 use Rattle.tree_nodes.specs.Table.{Column, Row, row, unlisted}
 use Rattle.tree_nodes.specs.Tree.{Parts, Tree, alone, atom, child, done, many, text_of}
 use Rattle.tree_nodes.specs.Views.{item_of}
-use Rattle.tree_nodes.specs.declared.table.Column.{Column as RustColumn}
 use Rattle.tree_nodes.proofs.Lists.{past_item}
 
 one_more : (i : ℕ) → suc i ≡ i + 1
@@ -37,13 +36,6 @@ at_part (child k b t fields rest) zero p cs a s e = let same : child k b t field
 at_part (child k b t fields rest) (suc i) p cs a s e = at_part rest i p cs a s e
 at_part (many items rest) zero p cs a s e = let same : many items done ≡ p = cc in rw (← same) refl
 at_part (many items rest) (suc i) p cs a s e = at_part rest i p cs a s e
-
-other_drop : (cs : List Column) (i : ℕ) → other_columns (each (drop i cs)) ≡ each (drop (suc i) cs)
-unfolding other_columns
-other_drop [] zero = refl
-other_drop [] (suc i) = refl
-other_drop (c ∷ cs) zero = refl
-other_drop (c ∷ cs) (suc i) = other_drop cs i
 
 module _ (fields : Parts) (cs : List Column) (a : Around) (i : ℕ) (start now : State) (so_far : walk fields (each cs) a start ≡ walk (past i fields) (each (drop i cs)) a now) where
   pub walked_field : (p : Parts) (c : Column) (next : State) → Some p ≡ part_at fields i → c ≡ first_column (each (drop i cs)) → next ≡ walk p (all c) a now
@@ -87,16 +79,3 @@ node_is t c a s s₁ s₂ s₃ r here inside v k er eh e₁ ei ev ek e₂ e₃ (
 pub from_root : (b : Bool) (t : Tree) (fields : Parts) → walk (alone t) (all unlisted) (record { outside = nowhere; inside = nowhere; fields = fields; number = 0; value_scope = scope.Function }) (nothing_met b) ≡ tables_of b (alone t)
 unfolding all_open
 from_root b t fields = refl
-
-pub found_column : (cs : List RustColumn) (i : ℕ) (c : RustColumn) → Some c ≡ slice_get cs i → column_of c ≡ first_column (each (drop i (map column_of cs)))
-unfolding first_column
-found_column [] i c e = absurd (cc)
-found_column (d ∷ cs) zero c e = let same : c ≡ d = cc in ap column_of same
-found_column (d ∷ cs) (suc i) c e = found_column cs i c e
-
-pub no_column : (cs : List RustColumn) (i : ℕ) → None ≡ slice_get cs i → unlisted ≡ first_column (each (drop i (map column_of cs)))
-unfolding first_column
-no_column [] zero e = refl
-no_column [] (suc i) e = refl
-no_column (d ∷ cs) zero e = absurd (cc)
-no_column (d ∷ cs) (suc i) e = no_column cs i e

@@ -9,7 +9,8 @@ use Rattle.tree_nodes.specs.Tree.{Parts, Text, Tree, done}
 use Rattle.tree_nodes.specs.Views.{item_of, items_of, part_of, parts_of}
 use Rattle.tree_nodes.specs.declared.node.Field.{Field}
 use Rattle.tree_nodes.specs.declared.node.Field.TheVariants.{Empty, Flag, Word, Text as FieldText, Str, Whole, Child, List as Several}
-use Rattle.tree_rename.proofs.RenamedJoined.{count_onto, drop_both, onto_assoc, onto_done, renamed_onto}
+use Rattle.tree_nodes.proofs.Onto.{onto_assoc, onto_done}
+use Rattle.tree_rename.proofs.RenamedJoined.{count_onto, drop_both, renamed_onto}
 use Rattle.tree_rename.specs.Renamed.{count, renamed}
 
 suc_is_plus_one : (i : ℕ) → suc i ≡ i + 1

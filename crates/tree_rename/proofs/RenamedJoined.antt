@@ -1,22 +1,11 @@
 -- Runs of parts, one before another: how many places they have, and how they are renamed.
 use Rattle.std.proofs.Common.{◌≡◌, ℕ, suc, ◌+◌, List, Bool, true, false, Option, drop, if◌then◌else◌, refl, sym, ap, ◌∙◌, arith}
 use Rattle.std.proofs.lemmas.List.{drop-drop}
+use Rattle.tree_nodes.proofs.Onto.{onto_assoc, onto_done}
 use Rattle.tree_nodes.specs.Look.{onto}
 use Rattle.tree_nodes.specs.Tree.{Parts, Text, atom, child, done, many}
 use Rattle.tree_nodes.specs.declared.kind.Kind.{Kind}
 use Rattle.tree_rename.specs.Renamed.{after, count, finished, has_name, inner, renamed}
-
-pub onto_assoc : (p q r : Parts) → onto (onto p q) r ≡ onto p (onto q r)
-onto_assoc done q r = refl
-onto_assoc (atom a more) q r = ap (atom a) (onto_assoc more q r)
-onto_assoc (child k s e fields more) q r = ap (child k s e fields) (onto_assoc more q r)
-onto_assoc (many items more) q r = ap (many items) (onto_assoc more q r)
-
-pub onto_done : (p : Parts) → onto p done ≡ p
-onto_done done = refl
-onto_done (atom a more) = ap (atom a) (onto_done more)
-onto_done (child k s e fields more) = ap (child k s e fields) (onto_done more)
-onto_done (many items more) = ap (many items) (onto_done more)
 
 add_assoc : (a b c d : ℕ) → b ≡ c + d → a + b ≡ (a + c) + d
 add_assoc a b c d e = omega arith

@@ -1,4 +1,4 @@
-use Rattle.place_list.proofs.WalkSteps.{found_column, no_column}
+use Rattle.tree_nodes.proofs.ColumnsAlong.{found_column, no_column}
 use Rattle.place_list.proofs.walk.column_at.Goals as goal
 
 pub returns-in-Some : goal.returns-in-Some
