@@ -1,7 +1,6 @@
 -- Runs of parts, one before another: how many places they have, and how they are renamed.
 use Rattle.std.proofs.Common.{◌≡◌, ℕ, suc, ◌+◌, List, Bool, true, false, Option, drop, if◌then◌else◌, refl, sym, ap, ◌∙◌, arith}
 use Rattle.std.proofs.lemmas.List.{drop-drop}
-use Rattle.tree_nodes.proofs.Onto.{onto_assoc, onto_done}
 use Rattle.tree_nodes.specs.Look.{onto}
 use Rattle.tree_nodes.specs.Tree.{Parts, Text, atom, child, done, many}
 use Rattle.tree_nodes.specs.declared.kind.Kind.{Kind}
