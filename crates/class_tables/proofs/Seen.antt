@@ -10,15 +10,17 @@ use Rattle.scope_rules.specs.Evals.{is_eval, is_open}
 use Rattle.scope_rules.specs.Faults.{has_undeclared, is_undeclared}
 use Rattle.scope_rules.specs.PrivateNames.{declares_private, declares_private_name, declaring_class, distinct, is_among, private_binder, private_binding, private_names}
 use Rattle.scope_rules.proofs.Lists.{any-map}
-use Rattle.class_tables.specs.Answers.{binding_at, class_at, declaration_of, undeclared_at}
+use Rattle.class_tables.specs.Answers.{binding_at, class_at, declaration_of, index_at, undeclared_at}
 use Rattle.class_tables.specs.Outwards.{nearest}
 use Rattle.class_tables.specs.Sights.{AreOf, Sight, declares_in, declares_name, evals_in, names_in, node_in, sight, sight_of}
-use Rattle.class_tables.specs.Tables.{AreTablesOf, at, found_in}
+use Rattle.class_tables.specs.Tables.{AreTablesOf, at, found_in, place_in}
 use Rattle.class_tables.specs.declared.class_table.ClassTable.{ClassTable}
 use Rattle.class_tables.specs.declared.class_table.Declared.{Declared}
 use Rattle.place_list.specs.declared.tables.ClassEntry.{ClassEntry}
 use Rattle.place_list.specs.declared.tables.PlaceEntry.{PlaceEntry}
 use Rattle.class_tables.proofs.Holding.{among_told}
+use Rattle.class_tables.proofs.Positions.{place_is_index}
+use Rattle.name_rules.specs.PrivateNumbers.{index_of}
 
 -- ---- of places, what their sights say
 
@@ -77,6 +79,20 @@ module _ (ts : List ClassTable) (ps : List Place) (held : AreTablesOf ts ps) (x 
   class_is [] = refl
   class_is (c ∷ cs) = class_step c cs (at ts c x) (among_told (map sight ps) ts held c x ∙ ap (λ ns. is_among ns x) (names_are ps c)) (class_is cs)
 
+  index_step : (c : ℕ) (cs : List ℕ) → (d : Option Declared) → is_some d ≡ is_among (private_names ps c) x → option_map (λ e. e.index) d ≡ place_in x (private_names ps c)
+      → option_map (λ f. f.index) (nearest (found_in ts x) cs) ≡ option_map (λ k. index_of x (private_names ps k)) (declaring_class ps x cs)
+      → option_map (λ f. f.index) (or_else (option_map (λ e. record { class = c; index = e.index; node = e.node }) d) (nearest (found_in ts x) cs)) ≡ option_map (λ k. index_of x (private_names ps k)) (declaring_class ps x (c ∷ cs))
+  unfolding declaring_class or_else
+  index_step c cs None e g ih = ih ∙ ap (λ (b : Bool). option_map (λ k. index_of x (private_names ps k)) (if b then Some c else declaring_class ps x cs)) e
+  index_step c cs (Some d) e g ih =
+      ap (λ (n : ℕ). Some n) (sym (place_is_index x (private_names ps c) d.index (sym g)))
+      ∙ ap (λ (b : Bool). option_map (λ k. index_of x (private_names ps k)) (if b then Some c else declaring_class ps x cs)) e
+
+  pub index_is : (cs : List ℕ) → option_map (λ f. f.index) (nearest (found_in ts x) cs) ≡ option_map (λ k. index_of x (private_names ps k)) (declaring_class ps x cs)
+  unfolding declaring_class nearest found_in
+  index_is [] = refl
+  index_is (c ∷ cs) = index_step c cs (at ts c x) (among_told (map sight ps) ts held c x ∙ ap (λ ns. is_among ns x) (names_are ps c)) (held.index c x ∙ ap (place_in x) (names_are ps c)) (index_is cs)
+
 -- ---- of an entry and its place
 
 module _ (ts : List ClassTable) (os : List ClassEntry) (ps : List Place) (held : AreTablesOf ts ps) (e : PlaceEntry) (p : Place) (same : sight p ≡ sight_of os e) where
@@ -91,6 +107,12 @@ module _ (ts : List ClassTable) (os : List ClassEntry) (ps : List Place) (held :
   declaring_is =
       ap (λ (s : Sight). option_map (λ f. f.class) (nearest (found_in ts s.name) s.classes)) (sym same)
       ∙ class_is ts ps held p.name p.site.setting.classes
+
+  pub name_index_is : index_at ts os e ≡ option_map (λ c. index_of p.name (private_names ps c)) (declaring_class ps p.name p.site.setting.classes)
+  unfolding index_at declaration_of sight sight_of
+  name_index_is =
+      ap (λ (s : Sight). option_map (λ f. f.index) (nearest (found_in ts s.name) s.classes)) (sym same)
+      ∙ index_is ts ps held p.name p.site.setting.classes
 
   pub undeclared_is : undeclared_at ts os e ≡ is_undeclared same_name ps p
   unfolding undeclared_at is_undeclared sight sight_of

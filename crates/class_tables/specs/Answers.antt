@@ -17,5 +17,8 @@ binding_at ts bodies e = if e.private then option_map (λ f. f.node) (declaratio
 unfoldable pub class_at : List ClassTable → List ClassEntry → PlaceEntry → Option ℕ
 class_at ts bodies e = option_map (λ f. f.class) (declaration_of ts bodies e)
 
+unfoldable pub index_at : List ClassTable → List ClassEntry → PlaceEntry → Option ℕ
+index_at ts bodies e = option_map (λ f. f.index) (declaration_of ts bodies e)
+
 unfoldable pub undeclared_at : List ClassTable → List ClassEntry → PlaceEntry → Bool
 undeclared_at ts bodies e = e.private && not (is_some (binding_at ts bodies e))

@@ -1,11 +1,11 @@
 //! What private names are bound to, over the tables of all class bodies.
 
-ghost use Rattle.std.specs.Prelude.{◌≡◌, ◌<◌, List, IfOk, length, map, option_map};
+ghost use Rattle.std.specs.Prelude.{◌≡◌, ◌<◌, List, length, map, option_map};
 ghost use Rattle.tree_places.specs.Places.{Place};
 ghost use Rattle.scope_rules.specs.Bindings.{same_name};
 ghost use Rattle.scope_rules.specs.Faults as faults;
 ghost use Rattle.scope_rules.specs.PrivateNames as names_spec;
-ghost use Rattle.class_tables.specs.Answers.{binding_at, class_at, declaration_of, undeclared_at};
+ghost use Rattle.class_tables.specs.Answers.{binding_at, class_at, declaration_of, index_at, undeclared_at};
 ghost use Rattle.class_tables.specs.Outwards.{Falls, outer};
 ghost use Rattle.class_tables.specs.Sights.{AreOf};
 ghost use Rattle.class_tables.specs.Tables.{AreTablesOf};
@@ -13,9 +13,8 @@ ghost use Rattle.class_tables.specs.Tables.{AreTablesOf};
 use crate::class_table::ClassTable;
 use crate::nearest::{Found, declaration};
 use place_list::{ClassEntry, PlaceEntry};
-use std::alloc::{AllocError, Global};
 
-/// The distinct private names that a class body declares, in the order of their first places.
+// The distinct private names that a class body declares, in the order of their first places.
 pub fn private_names<'a, 't>(tables: &'a [ClassTable<'t>], class: u32) -> &'a [&'t str]
     requires { class < length tables.now }
     ensures { (ps : List Place) → AreTablesOf tables.now ps → map (λ n. n.now) result.now ≡ names_spec.private_names ps class }
@@ -23,41 +22,7 @@ pub fn private_names<'a, 't>(tables: &'a [ClassTable<'t>], class: u32) -> &'a [&
     tables[class as usize].names.as_slice()
 }
 
-/// Of each place the binding of its private name, if it has one. Err is want of memory.
-pub fn private_bindings(
-    alloc: Global,
-    tables: &[ClassTable<'_>],
-    bodies: &[ClassEntry],
-    places: &[PlaceEntry<'_>],
-) -> Result<Vec<Option<u32>>, AllocError>
-    requires { Falls (outer bodies.now) }
-    ensures { IfOk result (λ v. (ps : List Place) → AreOf bodies.now places.now ps → AreTablesOf tables.now ps → v.items ≡ names_spec.private_bindings same_name ps) }
-{
-    let mut bindings = Vec::new(alloc);
-    for place in places {
-        bindings.push(private_binding(tables, bodies, place))?;
-    }
-    Ok(bindings)
-}
-
-/// Of each place the nearest class body that declares its name, if one does. Err is want of memory.
-pub fn declaring_classes(
-    alloc: Global,
-    tables: &[ClassTable<'_>],
-    bodies: &[ClassEntry],
-    places: &[PlaceEntry<'_>],
-) -> Result<Vec<Option<u32>>, AllocError>
-    requires { Falls (outer bodies.now) }
-    ensures { IfOk result (λ v. (ps : List Place) → AreOf bodies.now places.now ps → AreTablesOf tables.now ps → v.items ≡ map (λ p. names_spec.declaring_class ps p.name p.site.setting.classes) ps) }
-{
-    let mut classes = Vec::new(alloc);
-    for place in places {
-        classes.push(declaring_class(tables, bodies, place))?;
-    }
-    Ok(classes)
-}
-
-/// Whether a private name is used that no class body around it declares.
+// Whether a private name is used that no class body around it declares.
 pub fn has_undeclared(
     tables: &[ClassTable<'_>],
     bodies: &[ClassEntry],
@@ -74,7 +39,7 @@ pub fn has_undeclared(
     false
 }
 
-/// The binding of a place's private name, if it has one.
+// The binding of a place's private name, if it has one.
 #[tactic(auto, unfolding(crate::specs::Answers::binding_at))]
 pub fn private_binding(
     tables: &[ClassTable<'_>],
@@ -91,7 +56,7 @@ pub fn private_binding(
     }
 }
 
-/// The nearest class body that declares a place's name, if one does.
+// The nearest class body that declares a place's name, if one does.
 #[tactic(auto, unfolding(crate::specs::Answers::class_at))]
 pub fn declaring_class(
     tables: &[ClassTable<'_>],
@@ -103,6 +68,22 @@ pub fn declaring_class(
 {
     match declaration_of(tables, bodies, place) {
         Some(found) => Some(found.class),
+        None => None,
+    }
+}
+
+// Which of that class body's names it is.
+#[tactic(auto, unfolding(crate::specs::Answers::index_at))]
+pub fn name_index(
+    tables: &[ClassTable<'_>],
+    bodies: &[ClassEntry],
+    place: &PlaceEntry<'_>,
+) -> Option<u32>
+    requires { Falls (outer bodies.now) }
+    ensures { result ≡ index_at tables.now bodies.now place.now }
+{
+    match declaration_of(tables, bodies, place) {
+        Some(found) => Some(found.index),
         None => None,
     }
 }
@@ -130,7 +111,7 @@ fn node_of(found: Option<Found>) -> Option<u32>
 
 // Whether the place uses a private name that no class body around it declares.
 #[tactic(auto, unfolding(crate::specs::Answers::undeclared_at))]
-fn is_undeclared(
+pub fn is_undeclared(
     tables: &[ClassTable<'_>],
     bodies: &[ClassEntry],
     place: &PlaceEntry<'_>,

@@ -7,16 +7,16 @@ ghost use Rattle.class_tables.specs.Tables.{Declares, declared_at, names_of};
 use std::alloc::{AllocError, Global};
 use std::collections::BTreeMap;
 
-/// Where a class body declares a private name: which of its names it is, from 0, and the node of the first
-/// place that declares it.
+// Where a class body declares a private name: which of its names it is, from 0, and the node of the first
+// place that declares it.
 #[derive(Clone, Copy, Drop)]
 pub struct Declared {
     pub index: u32,
     pub node: u32,
 }
 
-/// The distinct private names that a class body declares, in the order of their first places, and where each
-/// one is declared.
+// The distinct private names that a class body declares, in the order of their first places, and where each
+// one is declared.
 #[derive(Drop)]
 pub struct ClassTable<'t> {
     pub names: Vec<&'t str>,

@@ -12,8 +12,8 @@ use crate::nearest::outer;
 use place_list::ClassEntry;
 use std::alloc::{AllocError, Global};
 
-/// Of each class body how many private names it and those around it declare, those of open classes aside.
-/// Each count is taken from the one of the class body outwards. Err is want of memory.
+// Of each class body how many private names it and those around it declare, those of open classes aside.
+// Each count is taken from the one of the class body outwards. Err is want of memory.
 pub fn closed_counts(
     alloc: Global,
     tables: &[ClassTable<'_>],
@@ -25,7 +25,8 @@ pub fn closed_counts(
     requires flags { length flags.now ≡ length bodies.now }
     requires few { length bodies.now < 2 ^ 31 }
     requires short { AreShort tables.now }
-    ensures { IfOk result (λ v. (ps : List Place) → AreTablesOf tables.now ps → AreFlagsOf flags.now ps → (k : ℕ) → k < length bodies.now → get_or v.items k 0 ≡ closed_count ps (chain (outer bodies.now) k)) }
+    ensures counts { IfOk result (λ v. (ps : List Place) → AreTablesOf tables.now ps → AreFlagsOf flags.now ps → (k : ℕ) → k < length bodies.now → get_or v.items k 0 ≡ closed_count ps (chain (outer bodies.now) k)) }
+    ensures len { IfOk result (λ v. length v.items ≡ length bodies.now) }
 {
     let mut counts = Vec::new(alloc);
     for class in 0..bodies.len() {
@@ -62,7 +63,7 @@ fn count_at(
 
 // The count of a class body outwards, or of none.
 #[tactic(auto, unfolding(crate::specs::Counts::count_around))]
-fn count_around(counts: &[usize], outwards: Option<u32>) -> usize
+pub fn count_around(counts: &[usize], outwards: Option<u32>) -> usize
     requires { IfSome outwards (λ p. p < length counts.now) }
     ensures { result ≡ count_around counts.now outwards }
 {

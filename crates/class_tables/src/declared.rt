@@ -14,7 +14,7 @@ use crate::roles::is_member_key;
 use place_list::{ClassEntry, PlaceEntry};
 use std::alloc::{AllocError, Global};
 
-/// The private names of each class body. Err is want of memory.
+// The private names of each class body. Err is want of memory.
 pub fn declared_names<'t>(
     alloc: Global,
     bodies: &[ClassEntry],

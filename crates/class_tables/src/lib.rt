@@ -8,4 +8,7 @@ mod counts;
 mod declared;
 mod nearest;
 mod open;
+mod private_table;
 mod roles;
+
+pub use private_table::PrivateTable;

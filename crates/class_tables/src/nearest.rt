@@ -7,8 +7,8 @@ ghost use Rattle.class_tables.specs.Tables.{at, found_in};
 use crate::class_table::{ClassTable, Declared};
 use place_list::ClassEntry;
 
-/// The class body that declares a private name: its number, which of its names it is, from 0, and the node of
-/// the first place that declares it.
+// The class body that declares a private name: its number, which of its names it is, from 0, and the node of
+// the first place that declares it.
 #[derive(Clone, Copy, Drop)]
 pub struct Found {
     pub class: u32,
@@ -16,7 +16,7 @@ pub struct Found {
     pub node: u32,
 }
 
-/// The nearest declaration of the name, from a class body outwards.
+// The nearest declaration of the name, from a class body outwards.
 pub fn declaration(
     tables: &[ClassTable<'_>],
     bodies: &[ClassEntry],

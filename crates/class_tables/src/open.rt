@@ -12,7 +12,7 @@ use crate::roles::is_called;
 use place_list::{ClassEntry, PlaceEntry};
 use std::alloc::{AllocError, Global};
 
-/// Of each class body whether it is open. Err is want of memory.
+// Of each class body whether it is open. Err is want of memory.
 pub fn open_classes(
     alloc: Global,
     bodies: &[ClassEntry],

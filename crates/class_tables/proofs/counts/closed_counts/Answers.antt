@@ -21,7 +21,7 @@ loop-class-preserved c =
           (bound_pushed ts fs next c.requires.fall xs n c.loop-class.invariant.len c.loop-class.invariant.bounded c.count_at.result c.count_at.ensures.bounded);
     }
 
-pub returns : goal.returns
-returns c = λ ps held told k h.
+pub returns-clause-counts : goal.returns-clause-counts
+returns-clause-counts c = λ ps held told k h.
     c.loop-class.invariant.counted k (search rules)
     ∙ closed_is c.args.tables.now c.args.flags.now ps held told (outer c.args.bodies.now) c.requires.fall k (subst (λ (n : ℕ). k < n) (sym c.requires.flags) h)
