@@ -1,5 +1,5 @@
 -- The entries of a list of places are told by what the places that they stand for are told by.
-use Rattle.std.specs.Prelude.{◌≡◌, ◌<◌, ℕ, zero, suc, List, [], ◌∷◌, length, map, slice_get, get_or, Option, Some, None, IfSome}
+use Rattle.std.specs.Prelude.{◌≡◌, ◌<◌, ℕ, zero, suc, List, [], ◌∷◌, length, map, slice_get, Option, Some, None, IfSome}
 use Rattle.std.specs.List.{All, AllByRecursion}
 use Rattle.std.proofs.Common.{refl, sym, ap, ◌∙◌, subst, arith}
 use Rattle.std.proofs.lemmas.List.{length-map}
@@ -7,18 +7,16 @@ use Rattle.std.proofs.lemmas.List.Elements.{All-cons, All-nil}
 use Rattle.scope_rules.proofs.Lists.{told}
 use Rattle.scope_rules.specs.Evals.{is_called}
 use Rattle.scope_rules.specs.PrivateNames.{is_member_key}
-use Rattle.tree_places.specs.Places.{Place}
 use Rattle.place_list.specs.Bounds.{ComesBefore, IsBelow, IsBounded, IsKnown}
 use Rattle.place_list.specs.TableViews.{class_parents, classes_at, entry_view, list_view, lists_in, place_in, places_in}
-use Rattle.place_list.specs.Tables.{Entry, Lists, lineages, list_at, place_of, setting_of, site_of}
-use Rattle.place_list.specs.TableWalk.{State}
+use Rattle.place_list.specs.Tables.{lineages, list_at, place_of, setting_of, site_of}
 use Rattle.place_list.specs.declared.tables.ClassEntry.{ClassEntry}
 use Rattle.place_list.specs.declared.tables.PlaceEntry.{PlaceEntry}
 use Rattle.place_list.specs.declared.tables.PlaceList.{PlaceList}
 use Rattle.place_list.proofs.OutwardWalks.{line_outwards}
 use Rattle.place_list.proofs.PlacesStand.{mapped_at}
 use Rattle.class_tables.specs.Outwards.{Falls, chain, chain_from, outer}
-use Rattle.class_tables.specs.Sights.{AreKnown, AreOf, Sight, sight, sight_of}
+use Rattle.class_tables.specs.Sights.{AreKnown, AreOf, sight, sight_of}
 use Rattle.class_tables.proofs.Chains.{chain_step}
 
 -- the numbers outside of class bodies

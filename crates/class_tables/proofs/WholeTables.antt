@@ -1,17 +1,15 @@
 -- What is read from a whole table of private names.
-use Rattle.std.specs.Prelude.{◌≡◌, ◌<◌, ℕ, Bool, List, length, slice_get, get_or, Option, Some, None, IfSome, option_map}
+use Rattle.std.specs.Prelude.{◌≡◌, ℕ, Bool, List, length, slice_get, Option, Some, None, IfSome, option_map}
 use Rattle.std.proofs.Common.{refl, sym, ap, ◌∙◌, subst}
 use Rattle.name_rules.specs.PrivateNumbers.{closed_count, index_of}
 use Rattle.scope_rules.specs.Bindings.{same_name}
 use Rattle.scope_rules.specs.Faults.{is_undeclared}
 use Rattle.scope_rules.specs.PrivateNames.{declaring_class, private_binding, private_names}
-use Rattle.tree_places.specs.Places.{Place}
 use Rattle.place_list.specs.Bounds.{IsBelow, IsKnown}
 use Rattle.place_list.specs.TableViews.{classes_at, list_view, place_in, places_in}
 use Rattle.place_list.specs.Tables.{list_at}
 use Rattle.place_list.specs.declared.tables.ClassEntry.{ClassEntry}
 use Rattle.place_list.specs.declared.tables.PlaceEntry.{PlaceEntry}
-use Rattle.place_list.specs.declared.tables.PlaceList.{PlaceList}
 use Rattle.class_tables.specs.Answers.{binding_at, class_at, index_at, undeclared_at}
 use Rattle.class_tables.specs.Counts.{count_around}
 use Rattle.class_tables.specs.Outwards.{Falls, outer}

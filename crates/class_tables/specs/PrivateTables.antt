@@ -1,7 +1,6 @@
 -- The table of a tree's private names, as data: the list of places that it is of, and what it holds of them.
-use Rattle.std.specs.Prelude.{◌≡◌, ◌<◌, ℕ, List, Option, Some, get_or, length}
+use Rattle.std.specs.Prelude.{◌≡◌, ◌<◌, ℕ, Some, get_or, length}
 use Rattle.name_rules.specs.PrivateNumbers.{closed_count}
-use Rattle.tree_places.specs.Places.{Place}
 use Rattle.place_list.specs.Bounds.{IsBounded}
 use Rattle.place_list.specs.TableViews.{classes_at, list_view, places_in}
 use Rattle.place_list.specs.declared.tables.PlaceList.{PlaceList}

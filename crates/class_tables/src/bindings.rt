@@ -15,7 +15,7 @@ use crate::nearest::{Found, declaration};
 use place_list::{ClassEntry, PlaceEntry};
 
 // The distinct private names that a class body declares, in the order of their first places.
-pub fn private_names<'a, 't>(tables: &'a [ClassTable<'t>], class: u32) -> &'a [&'t str]
+pub(crate) fn private_names<'a, 't>(tables: &'a [ClassTable<'t>], class: u32) -> &'a [&'t str]
     requires { class < length tables.now }
     ensures { (ps : List Place) → AreTablesOf tables.now ps → map (λ n. n.now) result.now ≡ names_spec.private_names ps class }
 {
@@ -23,7 +23,7 @@ pub fn private_names<'a, 't>(tables: &'a [ClassTable<'t>], class: u32) -> &'a [&
 }
 
 // Whether a private name is used that no class body around it declares.
-pub fn has_undeclared(
+pub(crate) fn has_undeclared(
     tables: &[ClassTable<'_>],
     bodies: &[ClassEntry],
     places: &[PlaceEntry<'_>],
@@ -41,7 +41,7 @@ pub fn has_undeclared(
 
 // The binding of a place's private name, if it has one.
 #[tactic(auto, unfolding(crate::specs::Answers::binding_at))]
-pub fn private_binding(
+pub(crate) fn private_binding(
     tables: &[ClassTable<'_>],
     bodies: &[ClassEntry],
     place: &PlaceEntry<'_>,
@@ -58,7 +58,7 @@ pub fn private_binding(
 
 // The nearest class body that declares a place's name, if one does.
 #[tactic(auto, unfolding(crate::specs::Answers::class_at))]
-pub fn declaring_class(
+pub(crate) fn declaring_class(
     tables: &[ClassTable<'_>],
     bodies: &[ClassEntry],
     place: &PlaceEntry<'_>,
@@ -74,7 +74,7 @@ pub fn declaring_class(
 
 // Which of that class body's names it is.
 #[tactic(auto, unfolding(crate::specs::Answers::index_at))]
-pub fn name_index(
+pub(crate) fn name_index(
     tables: &[ClassTable<'_>],
     bodies: &[ClassEntry],
     place: &PlaceEntry<'_>,
@@ -111,7 +111,7 @@ fn node_of(found: Option<Found>) -> Option<u32>
 
 // Whether the place uses a private name that no class body around it declares.
 #[tactic(auto, unfolding(crate::specs::Answers::undeclared_at))]
-pub fn is_undeclared(
+pub(crate) fn is_undeclared(
     tables: &[ClassTable<'_>],
     bodies: &[ClassEntry],
     place: &PlaceEntry<'_>,

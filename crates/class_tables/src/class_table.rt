@@ -10,7 +10,7 @@ use std::collections::BTreeMap;
 // Where a class body declares a private name: which of its names it is, from 0, and the node of the first
 // place that declares it.
 #[derive(Clone, Copy, Drop)]
-pub struct Declared {
+pub(crate) struct Declared {
     pub index: u32,
     pub node: u32,
 }
@@ -18,14 +18,14 @@ pub struct Declared {
 // The distinct private names that a class body declares, in the order of their first places, and where each
 // one is declared.
 #[derive(Drop)]
-pub struct ClassTable<'t> {
+pub(crate) struct ClassTable<'t> {
     pub names: Vec<&'t str>,
     pub firsts: BTreeMap<&'t str, Declared>,
 }
 
 impl<'t> ClassTable<'t> {
     /// No names.
-    pub fn new(alloc: Global) -> Self
+    pub(crate) fn new(alloc: Global) -> Self
         ensures names { names_of result ≡ [] }
         ensures firsts { (x : Text) → declared_at result x ≡ None }
     {
@@ -36,14 +36,14 @@ impl<'t> ClassTable<'t> {
     }
 
     /// Where the name is declared, if it is.
-    pub fn declared(&self, name: &str) -> Option<Declared>
+    pub(crate) fn declared(&self, name: &str) -> Option<Declared>
         ensures { result ≡ declared_at self.now name.now }
     {
         self.firsts.get(name).copied()
     }
 
     /// Takes in a place that declares this name. Err is want of memory.
-    pub fn declare(&mut self, name: &'t str, node: u32) -> Result<(), AllocError>
+    pub(crate) fn declare(&mut self, name: &'t str, node: u32) -> Result<(), AllocError>
         requires { length self.old.names.items < 2 ^ 32 }
         ensures { OnOk result (Declares self.old self.new name.now node) }
     {

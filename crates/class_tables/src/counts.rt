@@ -14,7 +14,7 @@ use std::alloc::{AllocError, Global};
 
 // Of each class body how many private names it and those around it declare, those of open classes aside.
 // Each count is taken from the one of the class body outwards. Err is want of memory.
-pub fn closed_counts(
+pub(crate) fn closed_counts(
     alloc: Global,
     tables: &[ClassTable<'_>],
     bodies: &[ClassEntry],
@@ -63,7 +63,7 @@ fn count_at(
 
 // The count of a class body outwards, or of none.
 #[tactic(auto, unfolding(crate::specs::Counts::count_around))]
-pub fn count_around(counts: &[usize], outwards: Option<u32>) -> usize
+pub(crate) fn count_around(counts: &[usize], outwards: Option<u32>) -> usize
     requires { IfSome outwards (λ p. p < length counts.now) }
     ensures { result ≡ count_around counts.now outwards }
 {

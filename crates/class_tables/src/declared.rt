@@ -15,7 +15,7 @@ use place_list::{ClassEntry, PlaceEntry};
 use std::alloc::{AllocError, Global};
 
 // The private names of each class body. Err is want of memory.
-pub fn declared_names<'t>(
+pub(crate) fn declared_names<'t>(
     alloc: Global,
     bodies: &[ClassEntry],
     places: &[PlaceEntry<'t>],
@@ -34,10 +34,7 @@ pub fn declared_names<'t>(
 }
 
 // A table without names for each class body.
-fn empty_tables<'t>(
-    alloc: Global,
-    bodies: &[ClassEntry],
-) -> Result<Vec<ClassTable<'t>>, AllocError>
+fn empty_tables<'t>(alloc: Global, bodies: &[ClassEntry]) -> Result<Vec<ClassTable<'t>>, AllocError>
     ensures none { IfOk result (λ v. Hold [] v.items) }
     ensures len { IfOk result (λ v. length v.items ≡ length bodies.now) }
 {

@@ -10,14 +10,14 @@ use place_list::ClassEntry;
 // The class body that declares a private name: its number, which of its names it is, from 0, and the node of
 // the first place that declares it.
 #[derive(Clone, Copy, Drop)]
-pub struct Found {
+pub(crate) struct Found {
     pub class: u32,
     pub index: u32,
     pub node: u32,
 }
 
 // The nearest declaration of the name, from a class body outwards.
-pub fn declaration(
+pub(crate) fn declaration(
     tables: &[ClassTable<'_>],
     bodies: &[ClassEntry],
     class: Option<u32>,
@@ -39,7 +39,7 @@ pub fn declaration(
 
 // The next class body outwards.
 #[tactic(auto, unfolding(crate::specs::Outwards::outer))]
-pub fn outer(bodies: &[ClassEntry], class: u32) -> Option<u32>
+pub(crate) fn outer(bodies: &[ClassEntry], class: u32) -> Option<u32>
     ensures { result ≡ outer bodies.now class }
 {
     match bodies.get(class as usize) {

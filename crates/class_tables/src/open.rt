@@ -13,7 +13,7 @@ use place_list::{ClassEntry, PlaceEntry};
 use std::alloc::{AllocError, Global};
 
 // Of each class body whether it is open. Err is want of memory.
-pub fn open_classes(
+pub(crate) fn open_classes(
     alloc: Global,
     bodies: &[ClassEntry],
     places: &[PlaceEntry<'_>],

@@ -37,7 +37,9 @@ impl<'l, 't> PrivateTable<'l, 't> {
         ensures whole { IfOk result (λ t. IsWhole t) }
         ensures list { IfOk result (λ t. list_in t ≡ list.now) }
     {
-        if list.places.as_slice().len() > 4_294_967_295 || list.class_bodies.as_slice().len() > 2_147_483_647 {
+        if list.places.as_slice().len() > 4_294_967_295
+            || list.class_bodies.as_slice().len() > 2_147_483_647
+        {
             return Err(AllocError);
         }
         let bodies = list.class_bodies.as_slice();
@@ -70,7 +72,11 @@ impl<'l, 't> PrivateTable<'l, 't> {
         ensures { IfSome (slice_get (places_in (list_in self.now)) i) (λ p. result ≡ names.private_binding same_name (places_in (list_in self.now)) p) }
     {
         let place = self.list.place(i);
-        bindings::private_binding(self.tables.as_slice(), self.list.class_bodies.as_slice(), &place)
+        bindings::private_binding(
+            self.tables.as_slice(),
+            self.list.class_bodies.as_slice(),
+            &place,
+        )
     }
 
     /// The nearest class body around the i-th place that declares a private name of its name.
@@ -80,7 +86,11 @@ impl<'l, 't> PrivateTable<'l, 't> {
         ensures { IfSome (slice_get (places_in (list_in self.now)) i) (λ p. result ≡ names.declaring_class (places_in (list_in self.now)) p.name p.site.setting.classes) }
     {
         let place = self.list.place(i);
-        bindings::declaring_class(self.tables.as_slice(), self.list.class_bodies.as_slice(), &place)
+        bindings::declaring_class(
+            self.tables.as_slice(),
+            self.list.class_bodies.as_slice(),
+            &place,
+        )
     }
 
     /// Which of that class body's names, from 0, the name of the i-th place is.
@@ -90,7 +100,11 @@ impl<'l, 't> PrivateTable<'l, 't> {
         ensures { IfSome (slice_get (places_in (list_in self.now)) i) (λ p. result ≡ option_map (λ c. index_of p.name (names.private_names (places_in (list_in self.now)) c)) (names.declaring_class (places_in (list_in self.now)) p.name p.site.setting.classes)) }
     {
         let place = self.list.place(i);
-        bindings::name_index(self.tables.as_slice(), self.list.class_bodies.as_slice(), &place)
+        bindings::name_index(
+            self.tables.as_slice(),
+            self.list.class_bodies.as_slice(),
+            &place,
+        )
     }
 
     /// Whether the i-th place is a private name that no class body around it declares.
@@ -100,7 +114,11 @@ impl<'l, 't> PrivateTable<'l, 't> {
         ensures { IfSome (slice_get (places_in (list_in self.now)) i) (λ p. result ≡ faults.is_undeclared same_name (places_in (list_in self.now)) p) }
     {
         let place = self.list.place(i);
-        bindings::is_undeclared(self.tables.as_slice(), self.list.class_bodies.as_slice(), &place)
+        bindings::is_undeclared(
+            self.tables.as_slice(),
+            self.list.class_bodies.as_slice(),
+            &place,
+        )
     }
 
     /// Whether a private name is used that no class body around it declares.
@@ -108,7 +126,11 @@ impl<'l, 't> PrivateTable<'l, 't> {
         requires { IsWhole self.now }
         ensures { result ≡ faults.has_undeclared same_name (places_in (list_in self.now)) }
     {
-        bindings::has_undeclared(self.tables.as_slice(), self.list.class_bodies.as_slice(), self.list.places.as_slice())
+        bindings::has_undeclared(
+            self.tables.as_slice(),
+            self.list.class_bodies.as_slice(),
+            self.list.places.as_slice(),
+        )
     }
 
     /// Whether a class body is open: a direct eval stands in it, at any depth.

@@ -8,7 +8,7 @@ use tree_nodes::Role;
 
 // Whether it is a member's own key.
 #[tactic(auto, unfolding(scope_rules::specs::PrivateNames::is_member_key))]
-pub fn is_member_key(role: Role) -> bool
+pub(crate) fn is_member_key(role: Role) -> bool
     ensures { result ≡ names.is_member_key role }
 {
     matches!(role, Role::MemberKey)
@@ -16,7 +16,7 @@ pub fn is_member_key(role: Role) -> bool
 
 // Whether it is called directly.
 #[tactic(auto, unfolding(scope_rules::specs::Evals::is_called))]
-pub fn is_called(role: Role) -> bool
+pub(crate) fn is_called(role: Role) -> bool
     ensures { result ≡ evals.is_called role }
 {
     matches!(role, Role::Called)
