@@ -118,7 +118,7 @@ fn class_bodies_are_told(rt: HostRuntime) -> Result<(), Fail> {
         let (count, first, is_open, closed) = class_bodies[class_body as usize];
         let names = table.private_names(class_body);
         assert_eq!(rt; names.len(), count);
-        assert!(rt; names.first().copied() == Some(first), "first name");
+        assert!(rt; !names.is_empty() && names[0] == first, "first name");
         assert!(rt; table.is_open(class_body) == is_open, "open");
         assert_eq!(rt; table.closed_count(Some(class_body)), closed);
     }
