@@ -5,7 +5,6 @@ use Rattle.std.proofs.Math.Dec.{eqb-suc-zero, eqb-zero-suc}
 use Rattle.std.proofs.lemmas.Bool.{both_ways, eq-eqb, eqb-true}
 use Rattle.std.proofs.lemmas.List.{length-map}
 use Rattle.place_list.proofs.OutwardWalks.{line_outwards, outer_below, same_scope_is_number}
-use Rattle.place_list.proofs.PlacesStand.{class_read, parent_read}
 use Rattle.place_list.specs.Bounds.{IsBelow, IsBounded}
 use Rattle.place_list.specs.Outwards.{same_number}
 use Rattle.place_list.specs.TableViews.{class_parents, classes_at, list_view, scope_at, scope_parents}

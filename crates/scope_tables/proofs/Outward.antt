@@ -1,9 +1,9 @@
 -- Walks outwards by numbers answer as the definitions over scopes do.
-use Rattle.std.specs.Prelude.{◌≡◌, ◌<◌, ◌≤◌, ℕ, zero, suc, Bool, true, false, not, ◌&&◌, ◌||◌, nat_eq, List, [], ◌∷◌, length, Option, Some, None, is_some}
+use Rattle.std.specs.Prelude.{◌≡◌, ◌<◌, ◌≤◌, ℕ, zero, suc, Bool, true, false, not, ◌&&◌, ◌||◌, List, ◌∷◌, length, Option, Some, None, is_some}
 use Rattle.std.proofs.Common.{refl, sym, ap, ◌∙◌, arith}
 use Rattle.std.proofs.lemmas.Bool.{both_ways}
 use Rattle.place_list.proofs.OutwardWalks.{how_far, lower, nearer, same_scope_is_number}
-use Rattle.place_list.specs.Bounds.{IsBelow, IsBounded}
+use Rattle.place_list.specs.Bounds.{IsBounded}
 use Rattle.place_list.specs.Outwards.{same_number}
 use Rattle.place_list.specs.TableViews.{list_view, lists_in, scope_at}
 use Rattle.place_list.specs.Tables.{list_at}

@@ -1,7 +1,6 @@
 -- What is found out of a list speaks of all its places.
-use Rattle.std.specs.Prelude.{◌≡◌, ℕ, Bool, ◌||◌, List, length, map, slice_get, Option, Some, IfSome}
-use Rattle.std.specs.List.{Contains}
-use Rattle.std.proofs.Common.{refl, sym, ap, subst, ◌∙◌}
+use Rattle.std.specs.Prelude.{◌≡◌, ℕ, Bool, ◌||◌, List, map, slice_get, Option, Some, IfSome}
+use Rattle.std.proofs.Common.{sym, ap, subst, ◌∙◌}
 use Rattle.place_list.proofs.PlacesStand.{numbers_are_known, read_at, stands_for_place}
 use Rattle.place_list.specs.Bounds.{IsBounded}
 use Rattle.place_list.specs.Names.{AreNumbered}

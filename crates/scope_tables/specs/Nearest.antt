@@ -1,5 +1,5 @@
 -- Answers along scopes, by their numbers.
-use Rattle.std.specs.Prelude.{ℕ, Bool, false, not, ◌&&◌, ◌||◌, nat_eq, List, [], ◌∷◌, Option, None, Some}
+use Rattle.std.specs.Prelude.{ℕ, Bool, false, not, ◌&&◌, ◌||◌, List, [], ◌∷◌, Option, None, Some}
 use Rattle.place_list.specs.Outwards.{same_number}
 use Rattle.scope_rules.specs.Bindings.{or_else}
 

@@ -1,5 +1,5 @@
 -- The entries of a list, and the places for which they stand.
-use Rattle.std.specs.Prelude.{◌≡◌, ◌<◌, ℕ, List, map, length, Option, if◌then◌else◌}
+use Rattle.std.specs.Prelude.{ℕ, List, map, length, Option, if◌then◌else◌}
 use Rattle.std.specs.List.{Contains}
 use Rattle.place_list.specs.Bounds.{IsBelow, IsBounded, IsKnown}
 use Rattle.place_list.specs.Names.{AreNumbered}

@@ -1,4 +1,4 @@
-use Rattle.std.specs.Prelude.{◌≡◌, ℕ, suc, length, Some}
+use Rattle.std.specs.Prelude.{ℕ, suc, length, Some}
 use Rattle.std.proofs.Common.{sym, subst, ◌∙◌}
 use Rattle.place_list.proofs.OutwardWalks.{lower}
 use Rattle.place_list.specs.Bounds.{IsBelow}

@@ -1,10 +1,8 @@
-use Rattle.std.specs.Prelude.{List, suc}
+use Rattle.std.specs.Prelude.{suc}
 use Rattle.std.specs.Map.{lookup}
-use Rattle.std.proofs.Common.{ap, ◌∙◌, take_all, subst}
-use Rattle.place_list.specs.declared.tables.PlaceEntry.{PlaceEntry}
+use Rattle.std.proofs.Common.{ap, ◌∙◌}
 use Rattle.scope_rules.specs.Bindings.{node_of}
 use Rattle.scope_tables.specs.Keys.{at_key, is_key, number_from}
-use Rattle.scope_tables.specs.Private.{HoldsPrivate}
 use Rattle.scope_tables.proofs.FirstPlaces.{contains_at}
 use Rattle.scope_tables.proofs.PrivatePlaces.{private_passed, private_put}
 use Rattle.scope_tables.proofs.private_names.private_declarations.Goals as goal

@@ -1,4 +1,4 @@
-use Rattle.std.specs.Prelude.{◌≡◌, Bool, true, cond, length, Some}
+use Rattle.std.specs.Prelude.{Bool, true, cond, length, Some}
 use Rattle.std.proofs.Common.{ap, sym, subst, ◌∙◌}
 use Rattle.place_list.proofs.OutwardWalks.{lower}
 use Rattle.place_list.specs.Bounds.{IsBelow}

@@ -1,5 +1,4 @@
 use Rattle.std.specs.Prelude.{map}
-use Rattle.std.specs.List.{Contains}
 use Rattle.std.proofs.Common.{sym, ap, ◌∙◌, take_all}
 use Rattle.std.proofs.lemmas.List.{map-append}
 use Rattle.place_list.specs.TableViews.{place_in}

@@ -2,7 +2,6 @@ use Rattle.std.proofs.Common.{sym, ◌∙◌}
 use Rattle.tree_places.specs.Places.{Place}
 use Rattle.scope_rules.specs.Faults.{has_sloppy_function, is_sloppy_function}
 use Rattle.place_list.specs.TableViews.{place_in}
-use Rattle.place_list.specs.declared.tables.PlaceEntry.{PlaceEntry}
 use Rattle.place_list.specs.Tables.{place_of}
 use Rattle.scope_tables.proofs.FirstPlaces.{contains_at}
 use Rattle.scope_tables.proofs.AnyPlace.{none_passes, none_passes_further, passing_found}
