@@ -1,7 +1,7 @@
 -- Chains of numbers that fall.
 use Rattle.std.specs.Prelude.{◌≡◌, ◌<◌, ℕ, zero, suc, ◌∷◌, Option}
 use Rattle.std.proofs.Common.{refl, ap, arith}
-use Rattle.scope_rules.proofs.Lists.{told}
+use Rattle.list_laws.proofs.Tests.{told}
 use Rattle.class_tables.specs.Outwards.{Falls, chain, chain_from, steps}
 
 -- so many steps are enough, and more are the same

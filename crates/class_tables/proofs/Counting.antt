@@ -6,7 +6,7 @@ use Rattle.name_rules.specs.PrivateNumbers.{closed_count}
 use Rattle.tree_places.specs.Places.{Place}
 use Rattle.scope_rules.specs.Evals.{is_open}
 use Rattle.scope_rules.specs.PrivateNames.{private_names}
-use Rattle.scope_rules.proofs.Lists.{told}
+use Rattle.list_laws.proofs.Tests.{told}
 use Rattle.class_tables.specs.Counts.{AreFlagsOf, closed_in, count_around, count_at, own_count}
 use Rattle.class_tables.specs.Outwards.{Falls, chain, chain_from}
 use Rattle.class_tables.specs.Tables.{AreTablesOf, names_at}

@@ -4,7 +4,7 @@ use Rattle.std.specs.List.{All, AllByRecursion}
 use Rattle.std.proofs.Common.{refl, sym, ap, ◌∙◌, subst, arith}
 use Rattle.std.proofs.lemmas.List.{length-map}
 use Rattle.std.proofs.lemmas.List.Elements.{All-cons, All-nil}
-use Rattle.scope_rules.proofs.Lists.{told}
+use Rattle.list_laws.proofs.Tests.{told}
 use Rattle.scope_rules.specs.Evals.{is_called}
 use Rattle.scope_rules.specs.PrivateNames.{is_member_key}
 use Rattle.place_list.specs.Bounds.{ComesBefore, IsBelow, IsBounded, IsKnown}

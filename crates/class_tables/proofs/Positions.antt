@@ -5,7 +5,7 @@ use Rattle.name_rules.specs.PrivateNumbers.{index_of, nth_unlisted}
 use Rattle.tree_nodes.specs.Tree.{Text}
 use Rattle.scope_rules.specs.Bindings.{same_name}
 use Rattle.scope_rules.specs.PrivateNames.{is_among}
-use Rattle.scope_rules.proofs.Lists.{none_some, some_one}
+use Rattle.list_laws.proofs.Tests.{none_some, some_one}
 use Rattle.class_tables.specs.Tables.{place_in}
 
 pub place_is_index : (x : Text) (ys : List Text) (k : ℕ) → place_in x ys ≡ Some k → index_of x ys ≡ k

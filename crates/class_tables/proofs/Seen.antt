@@ -9,7 +9,7 @@ use Rattle.scope_rules.specs.Bindings.{node, node_of, or_else, same_name}
 use Rattle.scope_rules.specs.Evals.{is_eval, is_open}
 use Rattle.scope_rules.specs.Faults.{has_undeclared, is_undeclared}
 use Rattle.scope_rules.specs.PrivateNames.{declares_private, declares_private_name, declaring_class, distinct, is_among, private_binder, private_binding, private_names}
-use Rattle.scope_rules.proofs.Lists.{any-map}
+use Rattle.list_laws.proofs.AnyOf.{any_map}
 use Rattle.class_tables.specs.Answers.{binding_at, class_at, declaration_of, index_at, undeclared_at}
 use Rattle.class_tables.specs.Outwards.{nearest}
 use Rattle.class_tables.specs.Sights.{AreOf, Sight, declares_in, declares_name, evals_in, names_in, node_in, sight, sight_of}
@@ -49,7 +49,7 @@ node_is (p ∷ ps) c x = go (declares_private_name same_name x c p) (node_is ps 
 
 pub open_is : (ps : List Place) (c : ℕ) → list_any (evals_in c) (map sight ps) ≡ is_open ps c
 unfolding evals_in is_open is_eval sight
-open_is ps c = any-map sight (evals_in c) ps
+open_is ps c = any_map sight (evals_in c) ps
 
 -- ---- outwards
 
@@ -146,7 +146,7 @@ all_alike os f g same (e ∷ es) (p ∷ ps) h =
 pub any_alike : (os : List ClassEntry) (f : PlaceEntry → Bool) (g : Place → Bool) → ((e : PlaceEntry) (p : Place) → sight p ≡ sight_of os e → f e ≡ g p)
     → (es : List PlaceEntry) (ps : List Place) → AreOf os es ps → list_any f es ≡ list_any g ps
 any_alike os f g same es ps h =
-    sym (any-map f (λ (b : Bool). b) es) ∙ ap (list_any (λ (b : Bool). b)) (all_alike os f g same es ps h) ∙ any-map g (λ (b : Bool). b) ps
+    sym (any_map f (λ (b : Bool). b) es) ∙ ap (list_any (λ (b : Bool). b)) (all_alike os f g same es ps h) ∙ any_map g (λ (b : Bool). b) ps
 
 pub undeclared_any : (ts : List ClassTable) (os : List ClassEntry) (es : List PlaceEntry) (ps : List Place) → AreOf os es ps → AreTablesOf ts ps → list_any (undeclared_at ts os) es ≡ has_undeclared same_name ps
 unfolding has_undeclared

@@ -8,11 +8,10 @@ use Rattle.std.proofs.lemmas.List.Folds.{list_any-append}
 use Rattle.std.proofs.lemmas.Slice.Eq.{bytes_eq-Decides}
 use Rattle.tree_places.specs.Places.{Place}
 use Rattle.tree_places.specs.Scopes.{same_scope}
-use Rattle.tree_places.proofs.Outwards.{any-mono}
 use Rattle.scope_rules.specs.Bindings.{at_home, declares_at, same_name}
 use Rattle.scope_rules.specs.Faults.{has_redeclaration, is_single_at, redeclares}
 use Rattle.scope_rules.specs.Homes.{declares_plainly, home, is_joinable, is_single}
-use Rattle.scope_rules.proofs.Lists.{any-same}
+use Rattle.list_laws.proofs.AnyOf.{any_same, any_weaken}
 use Rattle.place_list.specs.TableViews.{place_in}
 use Rattle.scope_tables.specs.Views.{places_of}
 use Rattle.place_list.specs.declared.tables.PlaceEntry.{PlaceEntry}
@@ -55,7 +54,7 @@ module _ {X : Type 0} (passes joins : X → Bool) where
   some_clash other [] = refl
   some_clash other (x ∷ xs) =
       clash_step other (passes x) (joins x) _ (list_any passes xs) (list_any (λ y. passes y && not (joins y)) xs)
-      (unfold alone in any-mono (λ y. passes y && not (joins y)) passes alone_passes xs) (some_clash other xs)
+      (unfold alone in any_weaken (λ y. passes y && not (joins y)) passes alone_passes xs) (some_clash other xs)
 
 -- ---- a place beside those so far
 
@@ -82,9 +81,9 @@ module _ (q : Place) where
   pub clashes : declares_plainly q.site ≡ true → (ps : List Place) → list_any (λ p. redeclares same_name p q) ps
       ≡ (list_any (declares_at same_name q.name (home q.site)) ps && (list_any (is_single_at same_name q.name (home q.site)) ps || not (is_joinable q.site)))
   clashes d ps =
-      any-same _ _ ps (λ p i. one_clash d p)
+      any_same _ _ ps (λ p i. one_clash d p)
       ∙ some_clash (declares_at same_name q.name (home q.site)) (λ p. is_joinable p.site) (is_joinable q.site) ps
-      ∙ ap (λ (b : Bool). list_any (declares_at same_name q.name (home q.site)) ps && (b || not (is_joinable q.site))) (sym (any-same _ _ ps (λ p i. single_is_alone p)))
+      ∙ ap (λ (b : Bool). list_any (declares_at same_name q.name (home q.site)) ps && (b || not (is_joinable q.site))) (sym (any_same _ _ ps (λ p i. single_is_alone p)))
 
   none_clashes : declares_plainly q.site ≡ false → (p : Place) → redeclares same_name p q ≡ false
   unfolding redeclares declares_at

@@ -11,7 +11,7 @@ use Rattle.scope_rules.specs.Bindings.{Bound, is_binding, is_node, node}
 use Rattle.scope_rules.specs.Evals.{contains}
 use Rattle.scope_rules.specs.Faults.{binds_in, declares_in_head, is_of_body, is_scope, reaches_body}
 use Rattle.scope_rules.specs.Homes.{declares, home, names_function, refers}
-use Rattle.scope_rules.proofs.Lists.{any-same}
+use Rattle.list_laws.proofs.AnyOf.{any_same}
 use Rattle.place_list.specs.Bounds.{IsBounded}
 use Rattle.place_list.specs.TableViews.{list_view, lists_in, scope_at}
 use Rattle.place_list.specs.Tables.{list_at, place_of, site_of}
@@ -161,7 +161,7 @@ module _ (bs : List (Bound Text)) (p : Bound Text) where
   pub bound_reference : refers p.place.site ≡ true → (n : ℕ) → p.binding ≡ Some n → (test : ℕ → Bool) → ((f : ℕ) → test f ≡ (list_any (binds_in f n) bs && not (list_any (declares_in_head f n) bs)))
       → list_any test p.place.site.setting.heads ≡ reaches_body bs p
   unfolding reaches_body is_of_body
-  bound_reference r n e test same = any-same test (is_of_body bs n) p.place.site.setting.heads (λ f i. same f) ∙ sym (rw (r, e) refl)
+  bound_reference r n e test same = any_same test (is_of_body bs n) p.place.site.setting.heads (λ f i. same f) ∙ sym (rw (r, e) refl)
 
 -- ---- a step of the loops that make the sets
 

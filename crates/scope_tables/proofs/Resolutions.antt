@@ -8,7 +8,7 @@ use Rattle.place_list.specs.TableViews.{entry_view, list_view, lists_in, place_i
 use Rattle.place_list.specs.Tables.{place_of}
 use Rattle.place_list.specs.declared.tables.PlaceEntry.{PlaceEntry}
 use Rattle.place_list.specs.declared.tables.PlaceList.{PlaceList}
-use Rattle.scope_rules.proofs.Lists.{map-map}
+use Rattle.std.proofs.lemmas.Simd.{map-map}
 use Rattle.scope_rules.specs.Bindings.{Bound, binding, bindings, bound, same_name, shadower}
 use Rattle.scope_rules.specs.Faults.{has_fault}
 use Rattle.scope_tables.specs.FaultsOf.{AreFaults}
@@ -25,15 +25,15 @@ all_stand l bounded numbered = record {
 }
 
 pub all_places : (l : PlaceList) → places_of l l.places.items ≡ places_in l
-all_places l = sym (map-map entry_view (place_of (lists_in l)) l.places.items)
+all_places l = sym (map-map (place_of (lists_in l)) entry_view l.places.items)
 
 -- the bindings in places that have their own
 pub bindings_alone : (l : PlaceList) (bs : List BoundPlace) (ps : List Place) → bounds_of l bs ≡ bound same_name ps → map (λ b. b.binding) bs ≡ bindings same_name ps
 unfolding bound bound_of bindings
 bindings_alone l bs ps e =
-    sym (map-map (bound_of l) (λ (b : Bound Text). b.binding) bs)
+    sym (map-map (λ (b : Bound Text). b.binding) (bound_of l) bs)
     ∙ ap (map (λ (b : Bound Text). b.binding)) e
-    ∙ map-map (λ (p : Place). record { place = p; binding = binding same_name ps p }) (λ (b : Bound Text). b.binding) ps
+    ∙ map-map (λ (b : Bound Text). b.binding) (λ (p : Place). record { place = p; binding = binding same_name ps p }) ps
 
 five : {a b c d e a' b' c' d' e' : Bool} → a ≡ a' → b ≡ b' → c ≡ c' → d ≡ d' → e ≡ e' → (a || b || c || d || e) ≡ (a' || b' || c' || d' || e')
 five {a} {b} {c} {d} {e} {a'} {b'} {c'} {d'} {e'} p q r s t =

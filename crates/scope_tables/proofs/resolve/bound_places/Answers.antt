@@ -3,7 +3,7 @@ use Rattle.std.proofs.Common.{sym, ap, ◌∙◌, take_all}
 use Rattle.std.proofs.lemmas.List.{map-append}
 use Rattle.place_list.specs.TableViews.{place_in}
 use Rattle.place_list.specs.declared.tables.PlaceEntry.{PlaceEntry}
-use Rattle.scope_rules.proofs.Lists.{map-map}
+use Rattle.std.proofs.lemmas.Simd.{map-map}
 use Rattle.scope_rules.specs.Bindings.{Bound, binding, bound, same_name}
 use Rattle.scope_tables.specs.Views.{bound_of, bounds_of, places_of}
 use Rattle.scope_tables.proofs.BindingCases.{bound_same, mapped_more}
@@ -42,4 +42,4 @@ returns-clause-bound c =
     let mark : Place → Bound Text = λ p. record { place = p; binding = binding same_name (places_of l all) p } in
     c.loop-place.invariant.bound
     ∙ ap (map view) (take_all c.loop-place.place-index all c.loop-place-test.false)
-    ∙ sym (map-map (place_in l) mark all)
+    ∙ sym (map-map mark (place_in l) all)
