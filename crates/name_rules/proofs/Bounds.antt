@@ -17,7 +17,7 @@ use Rattle.tree_nodes.specs.Tree.{Parts, Text, atom, child, done, many}
 use Rattle.tree_nodes.specs.declared.table.Opens.{Opens}
 use Rattle.tree_nodes.specs.declared.table.Opens.TheVariants.{Nothing}
 use Rattle.tree_places.proofs.Numbers.{Numbered, walk_numbered}
-use Rattle.tree_places.specs.Lineage.{count_nodes}
+use Rattle.tree_nodes.specs.NodeCount.{nodes_in}
 use Rattle.tree_places.specs.Places.{Around, Place, Seen, Setting, Site, at_field, before_all, enter, hide, met, named_by, names, nothing_yet, places, seen, sites, walk}
 use Rattle.tree_places.specs.Scopes.{Scope}
 use Rattle.scope_rules.proofs.PlacesRise.{one_of_number}
@@ -210,13 +210,13 @@ unfolding all_open
 met_nodes Nothing b e inner s = refl
 met_nodes _ b e inner s = refl
 
-walk_nodes : (x : Parts) (columns : Along) (a : Around) (s : Seen) → (walk x columns a s).nodes ≡ count_nodes x + s.nodes
+walk_nodes : (x : Parts) (columns : Along) (a : Around) (s : Seen) → (walk x columns a s).nodes ≡ nodes_in x + s.nodes
 unfolding all_open
 walk_nodes done columns a s = omega arith
 walk_nodes (atom v more) columns a s = walk_nodes more (other_columns columns) a s
 walk_nodes (many items more) columns a s =
-    let h : (walk items (all (first_column columns)) a s).nodes ≡ count_nodes items + s.nodes = walk_nodes items (all (first_column columns)) a s in
-    let k : (walk more (other_columns columns) a (walk items (all (first_column columns)) a s)).nodes ≡ count_nodes more + (walk items (all (first_column columns)) a s).nodes = walk_nodes more (other_columns columns) a (walk items (all (first_column columns)) a s) in
+    let h : (walk items (all (first_column columns)) a s).nodes ≡ nodes_in items + s.nodes = walk_nodes items (all (first_column columns)) a s in
+    let k : (walk more (other_columns columns) a (walk items (all (first_column columns)) a s)).nodes ≡ nodes_in more + (walk items (all (first_column columns)) a s).nodes = walk_nodes more (other_columns columns) a (walk items (all (first_column columns)) a s) in
     omega (arith, h, k)
 walk_nodes (child k b e fields more) columns a s =
     let here : Setting = at_field (first_column columns) a in
@@ -224,8 +224,8 @@ walk_nodes (child k b e fields more) columns a s =
     let s₁ : Seen = met (row k).opens b here around.inside.scope s in
     let s₂ : Seen = walk fields (each (row k).columns) around s₁ in
     let h : s₁.nodes ≡ suc s.nodes = met_nodes (row k).opens b here around.inside.scope s in
-    let i : s₂.nodes ≡ count_nodes fields + s₁.nodes = walk_nodes fields (each (row k).columns) around s₁ in
-    let j : (walk more (other_columns columns) a s₂).nodes ≡ count_nodes more + s₂.nodes = walk_nodes more (other_columns columns) a s₂ in
+    let i : s₂.nodes ≡ nodes_in fields + s₁.nodes = walk_nodes fields (each (row k).columns) around s₁ in
+    let j : (walk more (other_columns columns) a s₂).nodes ≡ nodes_in more + s₂.nodes = walk_nodes more (other_columns columns) a s₂ in
     omega (arith, h, i, j)
 
 sites_most : (n : ℕ) (ss : List Site) → Numbered n ss → length ss ≤ n
@@ -243,14 +243,14 @@ named_most [] xs = none xs
 named_most (s ∷ ss) [] = omega arith
 named_most (s ∷ ss) (x ∷ xs) = let h : length (named_by ss xs) ≤ length ss = named_most ss xs in omega (arith, h)
 
-members_most : (o : Options) (t : Parts) → length (members o t) ≤ count_nodes t
+members_most : (o : Options) (t : Parts) → length (members o t) ≤ nodes_in t
 unfolding all_open
 members_most o t =
     let a : length (members o t) ≡ length (places t) = ap length (members_at o t) ∙ length-map (places t) _ in
     let b : length (places t) ≤ length (sites t) = named_most (sites t) (names t) in
     let c : length (sites t) ≡ length (seen t).sites = length-reverse (seen t).sites in
     let d : length (seen t).sites ≤ (seen t).nodes = sites_most (seen t).nodes (seen t).sites (walk_numbered t (all unlisted) before_all nothing_yet tt) in
-    let e : (seen t).nodes ≡ count_nodes t + 0 = walk_nodes t (all unlisted) before_all nothing_yet in
+    let e : (seen t).nodes ≡ nodes_in t + 0 = walk_nodes t (all unlisted) before_all nothing_yet in
     omega (arith, a, b, c, d, e)
 
 below_all : (n l f r u m k : ℕ) → n ≤ l → f ≤ 48 + r + u → l + u ≤ m → m ≤ k → k + r < 2 ^ 30 → n + f < 2 ^ 31
@@ -260,5 +260,5 @@ pub bound_is_small : BoundIsSmall
 unfolding all_open
 bound_is_small o t h =
     let ms : List Member = members o t in
-    below_all (number_of_slots (slots_of o t)) (length (filter leads ms)) (length (distinct (forbidden o ms))) (length o.reserved) (length (filter is_unchanged ms)) (length ms) (count_nodes t)
+    below_all (number_of_slots (slots_of o t)) (length (filter leads ms)) (length (distinct (forbidden o ms))) (length o.reserved) (length (filter is_unchanged ms)) (length ms) (nodes_in t)
     (slots_most o t) (forbidden_most o ms) (two_filters_most leads is_unchanged ms leads_changed) (members_most o t) h

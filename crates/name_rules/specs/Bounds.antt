@@ -10,7 +10,7 @@ use Rattle.name_rules.specs.Options.{Options}
 use Rattle.name_rules.specs.ShortNames.{candidate}
 use Rattle.name_rules.specs.Slots.{number_of_slots, slots_of}
 use Rattle.tree_nodes.specs.Tree.{Parts, Text}
-use Rattle.tree_places.specs.Lineage.{count_nodes}
+use Rattle.tree_nodes.specs.NodeCount.{nodes_in}
 use Rattle.scope_rules.specs.Evals.{name_eval}
 use Rattle.scope_rules.specs.PrivateNames.{distinct}
 
@@ -28,4 +28,4 @@ NamesAreBounded = (o : Options) (t : Parts) (x : Text) → Contains (names_of_sl
 
 -- which is below 2 ^ 31, where the tree's nodes and the reserved names are fewer than 2 ^ 30
 abbrev pub BoundIsSmall : Type 0
-BoundIsSmall = (o : Options) (t : Parts) → count_nodes t + length o.reserved < 2 ^ 30 → candidate_limit o t < 2 ^ 31
+BoundIsSmall = (o : Options) (t : Parts) → nodes_in t + length o.reserved < 2 ^ 30 → candidate_limit o t < 2 ^ 31

@@ -9,11 +9,12 @@ use Rattle.list_laws.proofs.AnyOf.{any_some}
 use Rattle.list_laws.proofs.Members.{In}
 use Rattle.list_laws.proofs.PairsOf.{PairsOf, PairsOf_push}
 use Rattle.list_laws.proofs.Tests.{tested}
+use Rattle.tree_nodes.proofs.EachKind.{of_each as of_each_kind}
 use Rattle.tree_nodes.specs.Along.{Along, all, each, first_column, other_columns}
 use Rattle.tree_nodes.specs.Table.{Column, row, unlisted}
 use Rattle.tree_nodes.specs.Tree.{Parts, atom, child, done, many}
 use Rattle.tree_nodes.specs.declared.kind.Kind.{Kind}
-use Rattle.tree_nodes.specs.declared.kind.Kind.TheVariants.{Program, Hashbang, ExpressionStatement, BlockStatement, EmptyStatement, DebuggerStatement, ThisExpression, Super, ReturnStatement, ThrowStatement, LabeledStatement, BreakStatement, ContinueStatement, IfStatement, SwitchStatement, SwitchCase, TryStatement, CatchClause, WhileStatement, DoWhileStatement, ForStatement, ForInStatement, ForOfStatement, WithStatement, VariableDeclaration, VariableDeclarator, FunctionDeclaration, FunctionExpression, ArrowFunctionExpression, ClassDeclaration, ClassExpression, ClassBody, MethodDefinition, PropertyDefinition, StaticBlock, ArrayExpression, ObjectExpression, Property, SpreadElement, RestElement, UnaryExpression, UpdateExpression, BinaryExpression, LogicalExpression, AssignmentExpression, ConditionalExpression, CallExpression, NewExpression, MemberExpression, ChainExpression, SequenceExpression, YieldExpression, AwaitExpression, ImportExpression, MetaProperty, TemplateLiteral, TaggedTemplateExpression, TemplateElement, ObjectPattern, ArrayPattern, AssignmentPattern, Identifier, PrivateIdentifier, Literal, ImportDeclaration, ImportSpecifier, ImportDefaultSpecifier, ImportNamespaceSpecifier, ImportAttribute, ExportNamedDeclaration, ExportSpecifier, ExportDefaultDeclaration, ExportAllDeclaration}
+use Rattle.tree_nodes.specs.declared.kind.Kind.TheVariants.{FunctionExpression, Identifier}
 use Rattle.tree_nodes.specs.declared.table.Declared.TheVariants.{FunctionName}
 use Rattle.tree_nodes.specs.declared.table.Opens.{Opens}
 use Rattle.tree_nodes.specs.declared.table.Opens.TheVariants.{NameHere, PrivateNameHere}
@@ -47,79 +48,9 @@ all_quiet own (all c) = is_quiet own c
 -- only a function expression's first field does
 row_quiet : (k : Kind) → is_function_expression k ≡ false → all_quiet false (each (row k).columns) ≡ true
 unfolding all_open
-row_quiet Program e = refl
-row_quiet Hashbang e = refl
-row_quiet ExpressionStatement e = refl
-row_quiet BlockStatement e = refl
-row_quiet EmptyStatement e = refl
-row_quiet DebuggerStatement e = refl
-row_quiet ThisExpression e = refl
-row_quiet Super e = refl
-row_quiet ReturnStatement e = refl
-row_quiet ThrowStatement e = refl
-row_quiet LabeledStatement e = refl
-row_quiet BreakStatement e = refl
-row_quiet ContinueStatement e = refl
-row_quiet IfStatement e = refl
-row_quiet SwitchStatement e = refl
-row_quiet SwitchCase e = refl
-row_quiet TryStatement e = refl
-row_quiet CatchClause e = refl
-row_quiet WhileStatement e = refl
-row_quiet DoWhileStatement e = refl
-row_quiet ForStatement e = refl
-row_quiet ForInStatement e = refl
-row_quiet ForOfStatement e = refl
-row_quiet WithStatement e = refl
-row_quiet VariableDeclaration e = refl
-row_quiet VariableDeclarator e = refl
-row_quiet FunctionDeclaration e = refl
-row_quiet FunctionExpression e = no_role (sym e)
-row_quiet ArrowFunctionExpression e = refl
-row_quiet ClassDeclaration e = refl
-row_quiet ClassExpression e = refl
-row_quiet ClassBody e = refl
-row_quiet MethodDefinition e = refl
-row_quiet PropertyDefinition e = refl
-row_quiet StaticBlock e = refl
-row_quiet ArrayExpression e = refl
-row_quiet ObjectExpression e = refl
-row_quiet Property e = refl
-row_quiet SpreadElement e = refl
-row_quiet RestElement e = refl
-row_quiet UnaryExpression e = refl
-row_quiet UpdateExpression e = refl
-row_quiet BinaryExpression e = refl
-row_quiet LogicalExpression e = refl
-row_quiet AssignmentExpression e = refl
-row_quiet ConditionalExpression e = refl
-row_quiet CallExpression e = refl
-row_quiet NewExpression e = refl
-row_quiet MemberExpression e = refl
-row_quiet ChainExpression e = refl
-row_quiet SequenceExpression e = refl
-row_quiet YieldExpression e = refl
-row_quiet AwaitExpression e = refl
-row_quiet ImportExpression e = refl
-row_quiet MetaProperty e = refl
-row_quiet TemplateLiteral e = refl
-row_quiet TaggedTemplateExpression e = refl
-row_quiet TemplateElement e = refl
-row_quiet ObjectPattern e = refl
-row_quiet ArrayPattern e = refl
-row_quiet AssignmentPattern e = refl
-row_quiet Identifier e = refl
-row_quiet PrivateIdentifier e = refl
-row_quiet Literal e = refl
-row_quiet ImportDeclaration e = refl
-row_quiet ImportSpecifier e = refl
-row_quiet ImportDefaultSpecifier e = refl
-row_quiet ImportNamespaceSpecifier e = refl
-row_quiet ImportAttribute e = refl
-row_quiet ExportNamedDeclaration e = refl
-row_quiet ExportSpecifier e = refl
-row_quiet ExportDefaultDeclaration e = refl
-row_quiet ExportAllDeclaration e = refl
+row_quiet k e =
+    subst (λ (b : Bool). (b || all_quiet false (each (row k).columns)) ≡ true) e
+    (of_each_kind (λ (l : Kind). is_function_expression l || all_quiet false (each (row l).columns)) refl refl k)
 
 is_expression_kind : (k : Kind) → is_function_expression k ≡ true → k ≡ FunctionExpression
 unfolding all_open

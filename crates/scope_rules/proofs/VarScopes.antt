@@ -5,12 +5,12 @@ use Rattle.std.proofs.Common.{refl, sym, ap, ◌∙◌, subst, arith, inl, inr}
 use Rattle.std.proofs.lemmas.Bool.{or_cases, and_parts, both_ways, eq-eqb, ne_eqb, not-true}
 use Rattle.list_laws.proofs.AllOf.{AllOf, AllOf_reverse, AllOf_weaken, of_each}
 use Rattle.list_laws.proofs.Members.{In}
+use Rattle.tree_nodes.proofs.EachKind.{of_each as of_each_kind}
 use Rattle.tree_nodes.specs.Along.{Along, all, each, first_column, other_columns}
 use Rattle.tree_nodes.specs.Roles.{role_at}
 use Rattle.tree_nodes.specs.Table.{Column, row, unlisted}
 use Rattle.tree_nodes.specs.Tree.{Parts, atom, child, done, many}
 use Rattle.tree_nodes.specs.declared.kind.Kind.{Kind}
-use Rattle.tree_nodes.specs.declared.kind.Kind.TheVariants.{Program, Hashbang, ExpressionStatement, BlockStatement, EmptyStatement, DebuggerStatement, ThisExpression, Super, ReturnStatement, ThrowStatement, LabeledStatement, BreakStatement, ContinueStatement, IfStatement, SwitchStatement, SwitchCase, TryStatement, CatchClause, WhileStatement, DoWhileStatement, ForStatement, ForInStatement, ForOfStatement, WithStatement, VariableDeclaration, VariableDeclarator, FunctionDeclaration, FunctionExpression, ArrowFunctionExpression, ClassDeclaration, ClassExpression, ClassBody, MethodDefinition, PropertyDefinition, StaticBlock, ArrayExpression, ObjectExpression, Property, SpreadElement, RestElement, UnaryExpression, UpdateExpression, BinaryExpression, LogicalExpression, AssignmentExpression, ConditionalExpression, CallExpression, NewExpression, MemberExpression, ChainExpression, SequenceExpression, YieldExpression, AwaitExpression, ImportExpression, MetaProperty, TemplateLiteral, TaggedTemplateExpression, TemplateElement, ObjectPattern, ArrayPattern, AssignmentPattern, Identifier, PrivateIdentifier, Literal, ImportDeclaration, ImportSpecifier, ImportDefaultSpecifier, ImportNamespaceSpecifier, ImportAttribute, ExportNamedDeclaration, ExportSpecifier, ExportDefaultDeclaration, ExportAllDeclaration}
 use Rattle.tree_nodes.specs.declared.table.Declared.TheVariants.{FunctionName, Param}
 use Rattle.tree_nodes.specs.declared.table.Opens.{Opens}
 use Rattle.tree_nodes.specs.declared.table.Opens.TheVariants.{BareBlock, Block, ClassMembers, Hoisting, NameHere, Nothing, PrivateNameHere, WithBody}
@@ -234,79 +234,7 @@ along_fits o (all c) = column_fits o c
 -- in the table, a field for parameters or a function's name lies in the var scope of its node, and one that hands the role on lies in no scope of its node
 row_fits : (k : Kind) → along_fits (row k).opens (each (row k).columns) ≡ true
 unfolding all_open
-row_fits Program = refl
-row_fits Hashbang = refl
-row_fits ExpressionStatement = refl
-row_fits BlockStatement = refl
-row_fits EmptyStatement = refl
-row_fits DebuggerStatement = refl
-row_fits ThisExpression = refl
-row_fits Super = refl
-row_fits ReturnStatement = refl
-row_fits ThrowStatement = refl
-row_fits LabeledStatement = refl
-row_fits BreakStatement = refl
-row_fits ContinueStatement = refl
-row_fits IfStatement = refl
-row_fits SwitchStatement = refl
-row_fits SwitchCase = refl
-row_fits TryStatement = refl
-row_fits CatchClause = refl
-row_fits WhileStatement = refl
-row_fits DoWhileStatement = refl
-row_fits ForStatement = refl
-row_fits ForInStatement = refl
-row_fits ForOfStatement = refl
-row_fits WithStatement = refl
-row_fits VariableDeclaration = refl
-row_fits VariableDeclarator = refl
-row_fits FunctionDeclaration = refl
-row_fits FunctionExpression = refl
-row_fits ArrowFunctionExpression = refl
-row_fits ClassDeclaration = refl
-row_fits ClassExpression = refl
-row_fits ClassBody = refl
-row_fits MethodDefinition = refl
-row_fits PropertyDefinition = refl
-row_fits StaticBlock = refl
-row_fits ArrayExpression = refl
-row_fits ObjectExpression = refl
-row_fits Property = refl
-row_fits SpreadElement = refl
-row_fits RestElement = refl
-row_fits UnaryExpression = refl
-row_fits UpdateExpression = refl
-row_fits BinaryExpression = refl
-row_fits LogicalExpression = refl
-row_fits AssignmentExpression = refl
-row_fits ConditionalExpression = refl
-row_fits CallExpression = refl
-row_fits NewExpression = refl
-row_fits MemberExpression = refl
-row_fits ChainExpression = refl
-row_fits SequenceExpression = refl
-row_fits YieldExpression = refl
-row_fits AwaitExpression = refl
-row_fits ImportExpression = refl
-row_fits MetaProperty = refl
-row_fits TemplateLiteral = refl
-row_fits TaggedTemplateExpression = refl
-row_fits TemplateElement = refl
-row_fits ObjectPattern = refl
-row_fits ArrayPattern = refl
-row_fits AssignmentPattern = refl
-row_fits Identifier = refl
-row_fits PrivateIdentifier = refl
-row_fits Literal = refl
-row_fits ImportDeclaration = refl
-row_fits ImportSpecifier = refl
-row_fits ImportDefaultSpecifier = refl
-row_fits ImportNamespaceSpecifier = refl
-row_fits ImportAttribute = refl
-row_fits ExportNamedDeclaration = refl
-row_fits ExportSpecifier = refl
-row_fits ExportDefaultDeclaration = refl
-row_fits ExportAllDeclaration = refl
+row_fits k = of_each_kind (λ (l : Kind). along_fits (row l).opens (each (row l).columns)) refl refl k
 
 -- what a column that fits says
 or_says : (a b : Bool) → (not a || b) ≡ true → a ≡ true → b ≡ true

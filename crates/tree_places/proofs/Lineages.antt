@@ -13,7 +13,8 @@ use Rattle.tree_nodes.specs.declared.table.Mark.TheVariants.{Body, Usual}
 use Rattle.tree_nodes.specs.declared.table.Opens.{Opens}
 use Rattle.tree_nodes.specs.declared.table.Opens.TheVariants.{BareBlock, Block, ClassMembers, Hoisting, NameHere, Nothing, PrivateNameHere, WithBody}
 use Rattle.tree_places.proofs.MarkedSettings.{mark_keeps_scope, mark_keeps_var_scope}
-use Rattle.tree_places.specs.Lineage.{Found, Line, Lineage, ancestor, at_side, count_nodes, found, found_by, is_bare, lines, lines_of, openers, openers_of, opens_scope, scope_by, scope_number, var_scope_by}
+use Rattle.tree_nodes.specs.NodeCount.{nodes_in}
+use Rattle.tree_places.specs.Lineage.{Found, Line, Lineage, ancestor, at_side, found, found_by, is_bare, lines, lines_of, openers, openers_of, opens_scope, scope_by, scope_number, var_scope_by}
 use Rattle.tree_places.specs.Open.{all_open}
 use Rattle.tree_places.specs.Places.{Around, Seen, Setting, at_field, before_all, enter, hide, is_place, met, nothing_yet, opened, seen, side, sites, strict_in, walk, with_mark}
 use Rattle.tree_places.specs.Scopes.{Scope}
@@ -44,41 +45,41 @@ unfolding all_open
 openers_from done columns n = tt
 openers_from (atom v more) columns n = openers_from more (other_columns columns) n
 openers_from (many items more) columns n =
-    AllOf_append (λ m. n ≤ m) (openers items (all (first_column columns)) n) (openers more (other_columns columns) (count_nodes items + n))
+    AllOf_append (λ m. n ≤ m) (openers items (all (first_column columns)) n) (openers more (other_columns columns) (nodes_in items + n))
     (openers_from items (all (first_column columns)) n)
-    (AllOf_weaken (λ m. count_nodes items + n ≤ m) (λ m. n ≤ m) (λ m h. omega (arith, h)) (openers more (other_columns columns) (count_nodes items + n)) (openers_from more (other_columns columns) (count_nodes items + n)))
+    (AllOf_weaken (λ m. nodes_in items + n ≤ m) (λ m. n ≤ m) (λ m h. omega (arith, h)) (openers more (other_columns columns) (nodes_in items + n)) (openers_from more (other_columns columns) (nodes_in items + n)))
 openers_from (child k s e fields more) columns n =
     let fs : List ℕ = openers fields (each (row k).columns) (suc n) in
-    let ms : List ℕ = openers more (other_columns columns) (suc (count_nodes fields) + n) in
+    let ms : List ℕ = openers more (other_columns columns) (suc (nodes_in fields) + n) in
     go (opens_scope (row k).opens (is_bare (first_column columns).mark))
     (AllOf_append (λ m. n ≤ m) fs ms
     (AllOf_weaken (λ m. suc n ≤ m) (λ m. n ≤ m) (λ m h. omega (arith, h)) fs (openers_from fields (each (row k).columns) (suc n)))
-    (AllOf_weaken (λ m. suc (count_nodes fields) + n ≤ m) (λ m. n ≤ m) (λ m h. omega (arith, h)) ms (openers_from more (other_columns columns) (suc (count_nodes fields) + n))))
+    (AllOf_weaken (λ m. suc (nodes_in fields) + n ≤ m) (λ m. n ≤ m) (λ m h. omega (arith, h)) ms (openers_from more (other_columns columns) (suc (nodes_in fields) + n))))
   where
-    go : (b : Bool) → From n (openers fields (each (row k).columns) (suc n) ++ openers more (other_columns columns) (suc (count_nodes fields) + n))
-        → From n (cond b (n ∷ []) [] ++ (openers fields (each (row k).columns) (suc n) ++ openers more (other_columns columns) (suc (count_nodes fields) + n)))
+    go : (b : Bool) → From n (openers fields (each (row k).columns) (suc n) ++ openers more (other_columns columns) (suc (nodes_in fields) + n))
+        → From n (cond b (n ∷ []) [] ++ (openers fields (each (row k).columns) (suc n) ++ openers more (other_columns columns) (suc (nodes_in fields) + n)))
     go true a = (omega arith, a)
     go false a = a
 
-openers_below : (x : Parts) (columns : Along) (n : ℕ) → Below (count_nodes x + n) (openers x columns n)
+openers_below : (x : Parts) (columns : Along) (n : ℕ) → Below (nodes_in x + n) (openers x columns n)
 unfolding all_open
 openers_below done columns n = tt
 openers_below (atom v more) columns n = openers_below more (other_columns columns) n
 openers_below (many items more) columns n =
-    AllOf_append (λ m. m < (count_nodes items + count_nodes more) + n) (openers items (all (first_column columns)) n) (openers more (other_columns columns) (count_nodes items + n))
-    (AllOf_weaken (λ m. m < count_nodes items + n) (λ m. m < (count_nodes items + count_nodes more) + n) (λ m h. omega (arith, h)) (openers items (all (first_column columns)) n) (openers_below items (all (first_column columns)) n))
-    (AllOf_weaken (λ m. m < count_nodes more + (count_nodes items + n)) (λ m. m < (count_nodes items + count_nodes more) + n) (λ m h. omega (arith, h)) (openers more (other_columns columns) (count_nodes items + n)) (openers_below more (other_columns columns) (count_nodes items + n)))
+    AllOf_append (λ m. m < (nodes_in items + nodes_in more) + n) (openers items (all (first_column columns)) n) (openers more (other_columns columns) (nodes_in items + n))
+    (AllOf_weaken (λ m. m < nodes_in items + n) (λ m. m < (nodes_in items + nodes_in more) + n) (λ m h. omega (arith, h)) (openers items (all (first_column columns)) n) (openers_below items (all (first_column columns)) n))
+    (AllOf_weaken (λ m. m < nodes_in more + (nodes_in items + n)) (λ m. m < (nodes_in items + nodes_in more) + n) (λ m h. omega (arith, h)) (openers more (other_columns columns) (nodes_in items + n)) (openers_below more (other_columns columns) (nodes_in items + n)))
 openers_below (child k s e fields more) columns n =
-    let last : ℕ = suc (count_nodes fields + count_nodes more) + n in
+    let last : ℕ = suc (nodes_in fields + nodes_in more) + n in
     let fs : List ℕ = openers fields (each (row k).columns) (suc n) in
-    let ms : List ℕ = openers more (other_columns columns) (suc (count_nodes fields) + n) in
+    let ms : List ℕ = openers more (other_columns columns) (suc (nodes_in fields) + n) in
     go (opens_scope (row k).opens (is_bare (first_column columns).mark))
     (AllOf_append (λ m. m < last) fs ms
-    (AllOf_weaken (λ m. m < count_nodes fields + suc n) (λ m. m < last) (λ m h. omega (arith, h)) fs (openers_below fields (each (row k).columns) (suc n)))
-    (AllOf_weaken (λ m. m < count_nodes more + (suc (count_nodes fields) + n)) (λ m. m < last) (λ m h. omega (arith, h)) ms (openers_below more (other_columns columns) (suc (count_nodes fields) + n))))
+    (AllOf_weaken (λ m. m < nodes_in fields + suc n) (λ m. m < last) (λ m h. omega (arith, h)) fs (openers_below fields (each (row k).columns) (suc n)))
+    (AllOf_weaken (λ m. m < nodes_in more + (suc (nodes_in fields) + n)) (λ m. m < last) (λ m h. omega (arith, h)) ms (openers_below more (other_columns columns) (suc (nodes_in fields) + n))))
   where
-    go : (b : Bool) → Below (suc (count_nodes fields + count_nodes more) + n) (openers fields (each (row k).columns) (suc n) ++ openers more (other_columns columns) (suc (count_nodes fields) + n))
-        → Below (suc (count_nodes fields + count_nodes more) + n) (cond b (n ∷ []) [] ++ (openers fields (each (row k).columns) (suc n) ++ openers more (other_columns columns) (suc (count_nodes fields) + n)))
+    go : (b : Bool) → Below (suc (nodes_in fields + nodes_in more) + n) (openers fields (each (row k).columns) (suc n) ++ openers more (other_columns columns) (suc (nodes_in fields) + n))
+        → Below (suc (nodes_in fields + nodes_in more) + n) (cond b (n ∷ []) [] ++ (openers fields (each (row k).columns) (suc n) ++ openers more (other_columns columns) (suc (nodes_in fields) + n)))
     go true a = (omega arith, a)
     go false a = a
 
@@ -217,26 +218,26 @@ record After (whole before : List ℕ) (last : ℕ) (opening : List ℕ) (ls : L
   sites : map found s'.sites ≡ onto (map (found_by whole) ls) (map found s.sites)
 
 walked : (x : Parts) (columns : Along) (a : Around) (s : Seen) (outer inner : Lineage) (n : ℕ) (whole before after : List ℕ)
-    → whole ≡ before ++ (openers x columns n ++ after) → Below n before → From (count_nodes x + n) after → At whole before n a outer inner s
-    → After whole before (count_nodes x + n) (openers x columns n) (lines x columns outer inner n) s (walk x columns a s)
+    → whole ≡ before ++ (openers x columns n ++ after) → Below n before → From (nodes_in x + n) after → At whole before n a outer inner s
+    → After whole before (nodes_in x + n) (openers x columns n) (lines x columns outer inner n) s (walk x columns a s)
 unfolding all_open
 walked done columns a s outer inner n whole before after e b f at = record { nodes = omega (arith, at.nodes); scopes = no_more before (length s.scopes) at.scopes; sites = refl }
 walked (atom v more) columns a s outer inner n whole before after e b f at = walked more (other_columns columns) a s outer inner n whole before after e b f at
 walked (many items more) columns a s outer inner n whole before after e b f at =
     let c : Along = all (first_column columns) in
-    let m : ℕ = count_nodes items + n in
+    let m : ℕ = nodes_in items + n in
     let is : List ℕ = openers items c n in
     let ms : List ℕ = openers more (other_columns columns) m in
     let s₁ : Seen = walk items c a s in
     let after₁ : From m (ms ++ after) = AllOf_append (λ k. m ≤ k) ms after (openers_from more (other_columns columns) m)
-    (AllOf_weaken (λ k. (count_nodes items + count_nodes more) + n ≤ k) (λ k. m ≤ k) (λ k h. omega (arith, h)) after f) in
+    (AllOf_weaken (λ k. (nodes_in items + nodes_in more) + n ≤ k) (λ k. m ≤ k) (λ k h. omega (arith, h)) after f) in
     let one : After whole before m is (lines items c outer inner n) s s₁ =
     walked items c a s outer inner n whole before (ms ++ after) (e ∙ ap (λ xs. before ++ xs) (append_assoc is ms after)) b after₁ at in
-    let two : After whole (before ++ is) (count_nodes more + m) ms (lines more (other_columns columns) outer inner m) s₁ (walk more (other_columns columns) a s₁) =
+    let two : After whole (before ++ is) (nodes_in more + m) ms (lines more (other_columns columns) outer inner m) s₁ (walk more (other_columns columns) a s₁) =
     walked more (other_columns columns) a s₁ outer inner m whole (before ++ is) after
     (e ∙ ap (λ xs. before ++ xs) (append_assoc is ms after) ∙ sym (append_assoc before is (ms ++ after)))
     (Below_append n m before is (omega arith) b (openers_below items c n))
-    (AllOf_weaken (λ k. (count_nodes items + count_nodes more) + n ≤ k) (λ k. count_nodes more + m ≤ k) (λ k h. omega (arith, h)) after f)
+    (AllOf_weaken (λ k. (nodes_in items + nodes_in more) + n ≤ k) (λ k. nodes_in more + m ≤ k) (λ k h. omega (arith, h)) after f)
     (record { nodes = one.nodes; scopes = one.scopes; outside = at.outside; inside = at.inside }) in
     record {
       nodes = omega (arith, two.nodes);
@@ -253,7 +254,7 @@ walked (child k st en fields more) columns a s outer inner n whole before after 
     let around : Around = enter (row k) (hide k fields) here s in
     let s₁ : Seen = met o st here around.inside.scope s in
     let c : Along = each (row k).columns in
-    let m : ℕ = suc (count_nodes fields) + n in
+    let m : ℕ = suc (nodes_in fields) + n in
     let own : List ℕ = own_opener o bare n in
     let fs : List ℕ = openers fields c (suc n) in
     let ms : List ℕ = openers more (other_columns columns) m in
@@ -267,15 +268,15 @@ walked (child k st en fields more) columns a s outer inner n whole before after 
     ap (λ w. scope_number w n) e
     ∙ below_counted n before ((own ++ (fs ++ ms)) ++ after) b
     (AllOf_append (λ k. n ≤ k) (own ++ (fs ++ ms)) after (openers_from (child k st en fields more) columns n)
-    (AllOf_weaken (λ k. suc (count_nodes fields + count_nodes more) + n ≤ k) (λ k. n ≤ k) (λ k h. omega (arith, h)) after f))
+    (AllOf_weaken (λ k. suc (nodes_in fields + nodes_in more) + n ≤ k) (λ k. n ≤ k) (λ k h. omega (arith, h)) after f))
     ∙ sym at.scopes in
     let e₁ : whole ≡ (before ++ own) ++ (fs ++ (ms ++ after)) = e ∙ regroup before own fs ms after in
     let b₁ : Below (suc n) (before ++ own) = Below_append n (suc n) before own (omega arith) b (own_below o bare n) in
-    let after₁ : From (count_nodes fields + suc n) (ms ++ after) =
-    AllOf_append (λ k. count_nodes fields + suc n ≤ k) ms after
-    (AllOf_weaken (λ k. m ≤ k) (λ k. count_nodes fields + suc n ≤ k) (λ k h. omega (arith, h)) ms (openers_from more (other_columns columns) m))
-    (AllOf_weaken (λ k. suc (count_nodes fields + count_nodes more) + n ≤ k) (λ k. count_nodes fields + suc n ≤ k) (λ k h. omega (arith, h)) after f) in
-    let one : After whole (before ++ own) (count_nodes fields + suc n) fs lf s₁ s₂ =
+    let after₁ : From (nodes_in fields + suc n) (ms ++ after) =
+    AllOf_append (λ k. nodes_in fields + suc n ≤ k) ms after
+    (AllOf_weaken (λ k. m ≤ k) (λ k. nodes_in fields + suc n ≤ k) (λ k h. omega (arith, h)) ms (openers_from more (other_columns columns) m))
+    (AllOf_weaken (λ k. suc (nodes_in fields + nodes_in more) + n ≤ k) (λ k. nodes_in fields + suc n ≤ k) (λ k h. omega (arith, h)) after f) in
+    let one : After whole (before ++ own) (nodes_in fields + suc n) fs lf s₁ s₂ =
     walked fields c around s₁ outer₁ inner₁ (suc n) whole (before ++ own) (ms ++ after) e₁ b₁ after₁
     (record {
       nodes = met_nodes o st here around.inside.scope s ∙ ap suc at.nodes;
@@ -283,11 +284,11 @@ walked (child k st en fields more) columns a s outer inner n whole before after 
       outside = outer_fits o bare n whole here l fit;
       inside = inner_fits o bare (strict_in (row k).strict here.strict (hide k fields)) (length s.scopes) s.classes n whole here l (field_bare f₁ a) number fit;
     }) in
-    let two : After whole ((before ++ own) ++ fs) (count_nodes more + m) ms lm s₂ (walk more (other_columns columns) a s₂) =
+    let two : After whole ((before ++ own) ++ fs) (nodes_in more + m) ms lm s₂ (walk more (other_columns columns) a s₂) =
     walked more (other_columns columns) a s₂ outer inner m whole ((before ++ own) ++ fs) after
     (e₁ ∙ sym (append_assoc (before ++ own) fs (ms ++ after)))
-    (Below_append (suc n) m (before ++ own) fs (omega arith) b₁ (AllOf_weaken (λ k. k < count_nodes fields + suc n) (λ k. k < m) (λ k h. omega (arith, h)) fs (openers_below fields c (suc n))))
-    (AllOf_weaken (λ k. suc (count_nodes fields + count_nodes more) + n ≤ k) (λ k. count_nodes more + m ≤ k) (λ k h. omega (arith, h)) after f)
+    (Below_append (suc n) m (before ++ own) fs (omega arith) b₁ (AllOf_weaken (λ k. k < nodes_in fields + suc n) (λ k. k < m) (λ k h. omega (arith, h)) fs (openers_below fields c (suc n))))
+    (AllOf_weaken (λ k. suc (nodes_in fields + nodes_in more) + n ≤ k) (λ k. nodes_in more + m ≤ k) (λ k h. omega (arith, h)) after f)
     (record { nodes = omega (arith, one.nodes); scopes = one.scopes; outside = at.outside; inside = at.inside }) in
     record {
       nodes = omega (arith, two.nodes);
@@ -310,7 +311,7 @@ scopes_are_nearest t =
     let os : List ℕ = openers_of t in
     let xs : List Found = map (found_by os) (lines_of t) in
     let fit : Fits os before_all.outside [] = record { scope = refl; var_scope = refl } in
-    let all₁ : After os [] (count_nodes t + 0) os (lines_of t) nothing_yet (seen t) =
+    let all₁ : After os [] (nodes_in t + 0) os (lines_of t) nothing_yet (seen t) =
     walked t (all unlisted) before_all nothing_yet [] [] 0 os [] [] (sym (append-nil os)) tt tt
     (record { nodes = refl; scopes = refl; outside = fit; inside = record { scope = refl; var_scope = refl } }) in
     map_reverse found (seen t).sites ∙ ap reverse (all₁.sites ∙ onto_reverse xs [] ∙ append-nil (reverse xs)) ∙ reverse-reverse xs

@@ -1,6 +1,7 @@
 -- The nodes that enclose each place, and the scope of a place in the words of its rule: it is that of the nearest enclosing node which opens a scope around the field in which the place lies, and of those further out. Nothing here is counted on the way, as `Places` does it.
 use Rattle.std.specs.Prelude.{ℕ, suc, ◌+◌, Bool, true, false, not, ◌&&◌, nat_lt, List, [], ◌∷◌, ◌++◌, length, filter, if◌then◌else◌}
 use Rattle.tree_nodes.specs.Along.{Along, all, each, first_column, other_columns}
+use Rattle.tree_nodes.specs.NodeCount.{nodes_in}
 use Rattle.tree_nodes.specs.Table.{row, unlisted}
 use Rattle.tree_nodes.specs.Tree.{Parts, atom, child, done, many}
 use Rattle.tree_nodes.specs.declared.table.Mark.{Mark}
@@ -46,12 +47,6 @@ opens_var_scope _ = false
 unfoldable pub ancestor : ℕ → Opens → (bare inside : Bool) → Ancestor
 ancestor n o bare inside = record { node = n; opens = opens_scope o bare && inside; hoists = opens_var_scope o && inside }
 
-unfoldable pub count_nodes : Parts → ℕ
-count_nodes done = 0
-count_nodes (atom x more) = count_nodes more
-count_nodes (many items more) = count_nodes items + count_nodes more
-count_nodes (child k s e fields more) = suc (count_nodes fields + count_nodes more)
-
 -- the lineage of what lies in the scope that a node opens, or outside it
 unfoldable pub at_side : (inside : Bool) → (outer inner : Lineage) → Lineage
 at_side true outer inner = inner
@@ -62,21 +57,21 @@ unfoldable pub lines : Parts → Along → (outer inner : Lineage) → ℕ → L
 lines done columns outer inner n = []
 lines (atom x more) columns outer inner n = lines more (other_columns columns) outer inner n
 lines (many items more) columns outer inner n =
-    lines items (all (first_column columns)) outer inner n ++ lines more (other_columns columns) outer inner (count_nodes items + n)
+    lines items (all (first_column columns)) outer inner n ++ lines more (other_columns columns) outer inner (nodes_in items + n)
 lines (child k s e fields more) columns outer inner n =
     let lineage : Lineage = at_side (first_column columns).inside outer inner in
     let around : Bool → Lineage = λ inside. ancestor n (row k).opens (is_bare (first_column columns).mark) inside ∷ lineage in
     let own : List Line = if is_place (row k).opens then record { node = n; lineage = lineage } ∷ [] else [] in
-    own ++ (lines fields (each (row k).columns) (around false) (around true) (suc n) ++ lines more (other_columns columns) outer inner (suc (count_nodes fields) + n))
+    own ++ (lines fields (each (row k).columns) (around false) (around true) (suc n) ++ lines more (other_columns columns) outer inner (suc (nodes_in fields) + n))
 
 -- the numbers of the nodes that open a scope
 unfoldable pub openers : Parts → Along → ℕ → List ℕ
 openers done columns n = []
 openers (atom x more) columns n = openers more (other_columns columns) n
-openers (many items more) columns n = openers items (all (first_column columns)) n ++ openers more (other_columns columns) (count_nodes items + n)
+openers (many items more) columns n = openers items (all (first_column columns)) n ++ openers more (other_columns columns) (nodes_in items + n)
 openers (child k s e fields more) columns n =
     let own : List ℕ = if opens_scope (row k).opens (is_bare (first_column columns).mark) then n ∷ [] else [] in
-    own ++ (openers fields (each (row k).columns) (suc n) ++ openers more (other_columns columns) (suc (count_nodes fields) + n))
+    own ++ (openers fields (each (row k).columns) (suc n) ++ openers more (other_columns columns) (suc (nodes_in fields) + n))
 
 unfoldable pub lines_of : Parts → List Line
 lines_of t = lines t (all unlisted) [] [] 0

@@ -1,0 +1,149 @@
+-- Names that are declared again, one place after another.
+use Rattle.std.specs.Prelude.{◌≡◌, ◌⊎◌, ℕ, Bool, true, false, not, ◌&&◌, ◌||◌, List, [], ◌∷◌, ◌++◌, ◌+◌, ◌<◌, length, map, take, drop, get_or, bytes_eq}
+use Rattle.std.specs.List.{list_any}
+use Rattle.std.proofs.Common.{refl, sym, ap, ◌∙◌, inl, inr}
+use Rattle.std.proofs.lemmas.Bool.{and_left, and_right, both_ways, or_cases, or_left, or_right}
+use Rattle.std.proofs.lemmas.List.{map-append, take_more, take-append-drop}
+use Rattle.std.proofs.lemmas.List.Folds.{list_any-append}
+use Rattle.std.proofs.lemmas.Slice.Eq.{bytes_eq-Decides}
+use Rattle.tree_places.specs.Places.{Place}
+use Rattle.tree_places.specs.Scopes.{same_scope}
+use Rattle.scope_rules.specs.Bindings.{at_home, declares_at, same_name}
+use Rattle.scope_rules.specs.Faults.{has_redeclaration, is_single_at, redeclares}
+use Rattle.scope_rules.specs.Homes.{declares_plainly, home, is_joinable, is_single}
+use Rattle.list_laws.proofs.AnyOf.{any_same, any_weaken}
+use Rattle.place_list.specs.TableViews.{place_in}
+use Rattle.scope_tables.specs.Views.{places_of}
+use Rattle.place_list.specs.declared.tables.PlaceEntry.{PlaceEntry}
+use Rattle.place_list.specs.declared.tables.PlaceList.{PlaceList}
+
+pub same_bytes_flip : (x y : List ℕ) → bytes_eq x y ≡ bytes_eq y x
+same_bytes_flip x y = go _ refl _ refl
+  where
+    go : (t : Bool) → bytes_eq x y ≡ t → (u : Bool) → bytes_eq y x ≡ u → t ≡ u
+    go true p true q = refl
+    go false p false q = refl
+    go true p false q = absurd (both_ways _ q ((bytes_eq-Decides y x).1 (sym ((bytes_eq-Decides x y).0 p))))
+    go false p true q = absurd (both_ways _ p ((bytes_eq-Decides x y).1 (sym ((bytes_eq-Decides y x).0 q))))
+
+-- ---- which of some pass and aren't both joinable with another
+
+module _ {X : Type 0} (passes joins : X → Bool) where
+  alone : X → Bool
+  alone x = passes x && not (joins x)
+
+  alone_passes : (x : X) → alone x ≡ true → passes x ≡ true
+  unfolding alone
+  alone_passes x = go (passes x) (joins x)
+    where
+      go : (a b : Bool) → (a && not b) ≡ true → a ≡ true
+      go true b e = refl
+      go false b e = e
+
+  clash_step : (other d j l a b : Bool) → (b ≡ true → a ≡ true) → l ≡ (a && (b || not other)) → ((d && not (j && other)) || l) ≡ ((d || a) && (((d && not j) || b) || not other))
+  clash_step other false j l a b mono e = e
+  clash_step other true false l a b mono e = refl
+  clash_step false true true l a true mono e = refl
+  clash_step false true true l a false mono e = refl
+  clash_step true true true l true true mono e = e
+  clash_step true true true l false true mono e = absurd (both_ways _ refl (mono refl))
+  clash_step true true true l true false mono e = e
+  clash_step true true true l false false mono e = e
+
+  pub some_clash : (other : Bool) (xs : List X) → list_any (λ x. passes x && not (joins x && other)) xs ≡ (list_any passes xs && (list_any (λ x. passes x && not (joins x)) xs || not other))
+  some_clash other [] = refl
+  some_clash other (x ∷ xs) =
+      clash_step other (passes x) (joins x) _ (list_any passes xs) (list_any (λ y. passes y && not (joins y)) xs)
+      (unfold alone in any_weaken (λ y. passes y && not (joins y)) passes alone_passes xs) (some_clash other xs)
+
+-- ---- a place beside those so far
+
+and_swap : (a b c : Bool) → ((a && b) && c) ≡ ((a && c) && b)
+and_swap true true true = refl
+and_swap true true false = refl
+and_swap true false true = refl
+and_swap true false false = refl
+and_swap false b c = refl
+
+module _ (q : Place) where
+  one_clash : declares_plainly q.site ≡ true → (p : Place) → redeclares same_name p q ≡ (declares_at same_name q.name (home q.site) p && not (is_joinable p.site && is_joinable q.site))
+  unfolding redeclares declares_at at_home same_name same_scope
+  one_clash d p =
+      ap (λ (b : Bool). (declares_plainly p.site && (b && (same_scope (home q.site) (home p.site) && bytes_eq q.name p.name))) && not (is_joinable p.site && is_joinable q.site)) d
+      ∙ ap (λ (b : Bool). (declares_plainly p.site && (b && bytes_eq q.name p.name)) && not (is_joinable p.site && is_joinable q.site)) (same_bytes_flip (home q.site) (home p.site))
+      ∙ ap (λ (b : Bool). (declares_plainly p.site && (same_scope (home p.site) (home q.site) && b)) && not (is_joinable p.site && is_joinable q.site)) (same_bytes_flip q.name p.name)
+
+  single_is_alone : (p : Place) → is_single_at same_name q.name (home q.site) p ≡ (declares_at same_name q.name (home q.site) p && not (is_joinable p.site))
+  unfolding is_single_at is_single declares_at
+  single_is_alone p = and_swap (declares_plainly p.site) (not (is_joinable p.site)) (at_home same_name q.name (home q.site) p)
+
+  -- it clashes with one of them, if one declares its name and one does so alone, or it does itself
+  pub clashes : declares_plainly q.site ≡ true → (ps : List Place) → list_any (λ p. redeclares same_name p q) ps
+      ≡ (list_any (declares_at same_name q.name (home q.site)) ps && (list_any (is_single_at same_name q.name (home q.site)) ps || not (is_joinable q.site)))
+  clashes d ps =
+      any_same _ _ ps (λ p i. one_clash d p)
+      ∙ some_clash (declares_at same_name q.name (home q.site)) (λ p. is_joinable p.site) (is_joinable q.site) ps
+      ∙ ap (λ (b : Bool). list_any (declares_at same_name q.name (home q.site)) ps && (b || not (is_joinable q.site))) (sym (any_same _ _ ps (λ p i. single_is_alone p)))
+
+  none_clashes : declares_plainly q.site ≡ false → (p : Place) → redeclares same_name p q ≡ false
+  unfolding redeclares declares_at
+  none_clashes d p = and_left _ _ (and_right _ _ (and_left _ _ d))
+
+  pub clashes_not : declares_plainly q.site ≡ false → (ps : List Place) → list_any (λ p. redeclares same_name p q) ps ≡ false
+  clashes_not d [] = refl
+  clashes_not d (p ∷ ps) = ap (λ (b : Bool). b || list_any (λ r. redeclares same_name r q) ps) (none_clashes d p) ∙ clashes_not d ps
+
+  -- ---- so it is with one place more
+
+  pub redeclared_more : (ps : List Place) → has_redeclaration same_name (ps ++ q ∷ []) ≡ (has_redeclaration same_name ps || list_any (λ p. redeclares same_name p q) ps)
+  unfolding has_redeclaration
+  redeclared_more [] = refl
+  redeclared_more (p ∷ ps) =
+      ap (λ (b : Bool). b || has_redeclaration same_name (ps ++ q ∷ [])) (list_any-append (redeclares same_name p) ps (q ∷ []))
+      ∙ ap (λ (b : Bool). (list_any (redeclares same_name p) ps || (redeclares same_name p q || false)) || b) (redeclared_more ps)
+      ∙ go (list_any (redeclares same_name p) ps) (redeclares same_name p q) (has_redeclaration same_name ps) (list_any (λ r. redeclares same_name r q) ps)
+    where
+      go : (a r h l : Bool) → ((a || (r || false)) || (h || l)) ≡ ((a || h) || (r || l))
+      go true r h l = refl
+      go false true true l = refl
+      go false true false l = refl
+      go false false h l = refl
+
+pub redeclared_stays : (ps qs : List Place) → has_redeclaration same_name ps ≡ true → has_redeclaration same_name (ps ++ qs) ≡ true
+unfolding has_redeclaration
+redeclared_stays [] qs h = absurd (both_ways _ refl h)
+redeclared_stays (p ∷ ps) qs h = go (or_cases _ _ h) (redeclared_stays ps qs)
+  where
+    go : (list_any (redeclares same_name p) ps ≡ true) ⊎ (has_redeclaration same_name ps ≡ true) → (has_redeclaration same_name ps ≡ true → has_redeclaration same_name (ps ++ qs) ≡ true)
+        → (list_any (redeclares same_name p) (ps ++ qs) || has_redeclaration same_name (ps ++ qs)) ≡ true
+    go (inl e) ih = or_left _ _ (list_any-append (redeclares same_name p) ps qs ∙ or_left _ _ e)
+    go (inr e) ih = or_right _ _ (ih e)
+
+-- ---- what the tests answer
+
+pub by_the_second : (a b j : Bool) → a ≡ true → b ≡ true → b ≡ (a && (b || not j))
+by_the_second a b j p q = rw (p, q) refl
+
+pub by_the_third : (a b j : Bool) → a ≡ true → b ≡ false → not j ≡ (a && (b || not j))
+by_the_third a b j p q = rw (p, q) refl
+
+pub by_the_first : (a b j : Bool) → a ≡ false → a ≡ (a && (b || not j))
+by_the_first a b j p = rw p refl
+
+-- ---- along a list of places
+
+module _ (l : PlaceList) (all : List PlaceEntry) (i : ℕ) where
+  -- where the first i have no fault, those up to one more have one where that clashes
+  pub redeclared_by : (e : PlaceEntry) → i < length all → has_redeclaration same_name (places_of l (take i all)) ≡ false
+      → (b : Bool) → b ≡ list_any (λ p. redeclares same_name p (place_in l (get_or all i e))) (places_of l (take i all))
+      → has_redeclaration same_name (places_of l (take (i + 1) all)) ≡ b
+  redeclared_by e h faultless b clash =
+      ap (λ ps. has_redeclaration same_name ps) (ap (map (place_in l)) (take_more all i e h) ∙ map-append (place_in l) (take i all) (get_or all i e ∷ []))
+      ∙ redeclared_more (place_in l (get_or all i e)) (places_of l (take i all))
+      ∙ ap (λ (t : Bool). t || list_any (λ p. redeclares same_name p (place_in l (get_or all i e))) (places_of l (take i all))) faultless
+      ∙ sym clash
+
+  pub redeclared_whole : has_redeclaration same_name (places_of l (take (i + 1) all)) ≡ true → has_redeclaration same_name (places_of l all) ≡ true
+  redeclared_whole t =
+      ap (λ ps. has_redeclaration same_name ps) (ap (map (place_in l)) (sym (take-append-drop (i + 1) all)) ∙ map-append (place_in l) (take (i + 1) all) (drop (i + 1) all))
+      ∙ redeclared_stays (places_of l (take (i + 1) all)) (places_of l (drop (i + 1) all)) t

@@ -1,0 +1,11 @@
+pub mod Puts
+pub mod Numbers
+pub mod Outward
+pub mod FirstPlaces
+pub mod Binders
+pub mod BindingCases
+pub mod Clashes
+pub mod AnyPlace
+pub mod Reaching
+pub mod PrivatePlaces
+pub mod Resolutions

@@ -1,0 +1,11 @@
+use Rattle.std.specs.Prelude.{List}
+use Rattle.std.proofs.Common.{subst, sym}
+use Rattle.place_list.specs.declared.tables.PlaceEntry.{PlaceEntry}
+use Rattle.scope_tables.proofs.Resolutions.{all_stand}
+use Rattle.scope_tables.specs.Views.{AllStand}
+use Rattle.scope_tables.proofs.tables.ScopeTables.build.Goals as goal
+
+pub resolve-requires : goal.resolve-requires
+resolve-requires c =
+    let l = c.in_ok-list.list in
+    subst (λ (es : List PlaceEntry). AllStand l es) (sym c.as_slice.ensures.value) (all_stand l c.in_ok-list.ensures.bounded c.in_ok-list.ensures.numbered)

@@ -1,0 +1,10 @@
+pub mod Keys
+pub mod Views
+pub mod Firsts
+pub mod DeclarationsAt
+pub mod Nearest
+pub mod Reach
+pub mod Private
+pub mod FaultsOf
+pub mod Resolving
+pub mod WholeTree

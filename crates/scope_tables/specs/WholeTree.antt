@@ -1,0 +1,12 @@
+-- The tables of a whole tree.
+use Rattle.place_list.specs.Bounds.{IsBounded}
+use Rattle.place_list.specs.Names.{AreNumbered}
+use Rattle.place_list.specs.TableViews.{list_view}
+use Rattle.scope_tables.specs.Resolving.{AreResolved}
+use Rattle.scope_tables.specs.declared.tables.ScopeTables.{ScopeTables}
+
+-- what is found is found out of the list
+pub record AreTables (t : ScopeTables) : Type 0 where
+  pub bounded : IsBounded (list_view t.list)
+  pub numbered : AreNumbered t.list.places.items
+  pub found : AreResolved t.list t.list.places.items t.resolved

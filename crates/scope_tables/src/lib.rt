@@ -1,0 +1,25 @@
+//! What each place of any tree is bound to, and which faults its scopes have, by look-ups alone.
+#![tactic(auto)]
+
+mod bound;
+mod crossing;
+mod declarations;
+mod faults;
+mod firsts;
+mod key;
+mod private_names;
+mod reach;
+mod reach_sets;
+mod redeclared;
+mod resolve;
+mod resolved;
+mod roles;
+mod sites;
+mod sloppy;
+mod tables;
+mod undeclared;
+
+pub use declarations::Declarations;
+pub use faults::Faults;
+pub use resolved::Resolved;
+pub use tables::ScopeTables;
