@@ -21,6 +21,7 @@ pub mod PrivateChains
 -- trees under new names
 pub mod SlotsAreUsed
 pub mod Mangling
+pub mod ChosenNames
 -- rivals, bounds and costs
 pub mod Rivals
 pub mod Bounds

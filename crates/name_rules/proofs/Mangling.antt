@@ -155,7 +155,7 @@ open_stays ps x (d ∷ ds) c e f = go (is_among (private_names ps d) x) e (λ k.
     go true q ih = ap (λ b. cond b None (Some (number_in ps ds (index_of x (private_names ps d))))) (subst (λ (n : ℕ). is_open ps n ≡ true) (sym (some q)) f)
     go false q ih = ih q
 
-with_map : (ps : List Place) (f : Place → Text) (qs : List Place) → with_private ps qs (map f qs) ≡ map (λ p. cond p.site.private (new_private_name ps p) (f p)) qs
+pub with_map : (ps : List Place) (f : Place → Text) (qs : List Place) → with_private ps qs (map f qs) ≡ map (λ p. cond p.site.private (new_private_name ps p) (f p)) qs
 unfolding all_open
 with_map ps f [] = refl
 with_map ps f (q ∷ qs) = ap (λ xs. cond q.site.private (new_private_name ps q) (f q) ∷ xs) (with_map ps f qs)

@@ -36,7 +36,7 @@ use Rattle.name_rules.specs.Slots.{Slotted, number_of_slots, slot_of, slots_of}
 
 -- ---- lists
 
-greatest_in : (bs : List Slotted) (d : Slotted) → In d bs → d.slot < number_of_slots bs
+pub greatest_in : (bs : List Slotted) (d : Slotted) → In d bs → d.slot < number_of_slots bs
 unfolding all_open
 greatest_in [] d i = absurd i
 greatest_in (b ∷ bs) d i = go i (greatest_in bs d)

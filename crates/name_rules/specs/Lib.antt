@@ -14,6 +14,7 @@ pub mod NameCharacters
 pub mod SlotNames
 pub mod PrivateLaws
 pub mod MangledLaws
+pub mod ChosenNames
 pub mod Open
 pub mod Rivals
 pub mod Bounds

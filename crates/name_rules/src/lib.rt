@@ -5,11 +5,13 @@
 #![tactic(auto)]
 
 mod bound_laws;
+mod choice_laws;
 mod laws;
 mod rival_laws;
 mod shortest_laws;
 
 pub use bound_laws::names_are_bounded;
+pub use choice_laws::chosen_names_are_new;
 pub use laws::{
     given_names_keep_bindings, lengths_never_fall, live_together, live_up_to_home,
     new_names_mangle, private_names_keep_bindings, private_numbers_differ, short_is_one_to_one,
