@@ -53,9 +53,14 @@ fn fix_paths_lead_to_the_literals(rt: HostRuntime) -> Result<(), Fail> {
         text.as_str(),
         "{\"node\":\n[{\"start\":5,\"value\":null},{\"start\":5,\"value\":null}]\n,\"fixes\":[[0],[1]]}"
     );
+    Ok(())
+}
+
+#[test]
+fn no_fixes_in_the_pretty_layout(rt: HostRuntime) -> Result<(), Fail> {
     let serializer = PrettyFixesSerializer::new(rt.alloc(), false, false)?;
     let text = serializer.serialize_with_fixes(&JsonSlice(&[true]))?;
-    assert_eq!(rt; text.as_str(), "{\"node\":\n[\n  true\n]\n,\"fixes\":[]}");
+    assert!(rt; text.as_str() == "{\"node\":\n[\n  true\n]\n,\"fixes\":[]}");
     Ok(())
 }
 
@@ -65,20 +70,16 @@ fn no_path_without_fixes(rt: HostRuntime) -> Result<(), Fail> {
     let mut serializer = CompactSerializer::new(rt.alloc(), false, false)?;
     serializer.record_fix_path()?;
     Literal.serialize(&mut serializer)?;
-    assert_eq!(rt;
-        serializer.into_string().as_str(),
-        "{\"start\":5,\"value\":null}"
-    );
+    assert!(rt; serializer.into_string().as_str() == "{\"start\":5,\"value\":null}");
     Ok(())
 }
 
 #[test]
-fn equal_parts(rt: HostRuntime) -> Result<(), Fail> {
+fn equal_parts(rt: HostRuntime) {
     trace_path_parts_compare_by_part();
     envelope_reads_alone();
     assert!(rt; TracePathPart::DUMMY == TracePathPart::Index(0));
     assert!(rt; TracePathPart::Key("a") == TracePathPart::Key("a"));
     assert!(rt; TracePathPart::Key("a") != TracePathPart::Key("b"));
     assert!(rt; TracePathPart::Key("0") != TracePathPart::Index(0));
-    Ok(())
 }

@@ -276,10 +276,9 @@ impl<'p, P: SequenceSerializer> SequenceSerializer for CountingList<'p, P> {
 #[test]
 fn own_config_and_formatter(rt: HostRuntime) -> Result<(), Fail> {
     let mut serializer = ESTreeSerializer::<Syntax, Counting>::new(rt.alloc(), true, false)?;
-    assert!(rt; serializer.include_ts_fields());
-    assert!(rt; !serializer.ranges());
+    assert!(rt; serializer.include_ts_fields() && !serializer.ranges());
     JsonSlice(&[Some(true), None]).serialize(&mut serializer)?;
-    assert_eq!(rt; serializer.into_string().as_str(), "[\n  true,\n  null\n]");
+    assert!(rt; serializer.into_string().as_str() == "[\n  true,\n  null\n]");
     Ok(())
 }
 
@@ -289,42 +288,45 @@ fn bare_serializer(rt: &HostRuntime) -> Bare {
     }
 }
 
-#[test]
-fn own_struct_serializer(rt: HostRuntime) -> Result<(), Fail> {
-    let mut serializer = bare_serializer(&rt);
-    let mut state = ESTreeStructSerializer::new(&mut serializer)?;
-    let mut counting = CountingStruct {
-        inner: &mut state,
-        fields: 0,
-    };
+// Writes a field of each kind, and returns how many were counted.
+fn write_fields<P: StructSerializer>(inner: &mut P) -> Result<u64, AllocError> {
+    let mut counting = CountingStruct { inner, fields: 0 };
     let none: [u32; 0] = [];
     counting.serialize_field("none", &JsonSlice(&none))?;
     counting.serialize_field("one", &JsonSlice(&[1u32, 2]))?;
     counting.serialize_ts_field("two", &2u32)?;
     counting.serialize_js_field("three", &3u32)?;
-    assert_eq!(rt; counting.fields, 2);
+    let fields = counting.fields;
     counting.end()?;
+    Ok(fields)
+}
+
+#[test]
+fn own_struct_serializer(rt: HostRuntime) -> Result<(), Fail> {
+    let mut serializer = bare_serializer(&rt);
+    let mut state = ESTreeStructSerializer::new(&mut serializer)?;
+    assert!(rt; write_fields(&mut state)? == 2);
     state.end()?;
-    assert_eq!(rt;
-        serializer.buffer.as_str(),
-        "{\"none\":[],\"one\":[1,2],\"three\":3}"
-    );
+    assert!(rt; serializer.buffer.as_str() == "{\"none\":[],\"one\":[1,2],\"three\":3}");
     Ok(())
+}
+
+// Writes two elements, and returns how many were counted.
+fn write_elements<P: SequenceSerializer>(inner: &mut P) -> Result<u64, AllocError> {
+    let mut counting = CountingList { inner, elements: 0 };
+    counting.serialize_element(&())?;
+    counting.serialize_element(&true)?;
+    let elements = counting.elements;
+    counting.end()?;
+    Ok(elements)
 }
 
 #[test]
 fn own_sequence_serializer(rt: HostRuntime) -> Result<(), Fail> {
     let mut serializer = bare_serializer(&rt);
     let mut list = ESTreeSequenceSerializer::new(&mut serializer)?;
-    let mut counting = CountingList {
-        inner: &mut list,
-        elements: 0,
-    };
-    counting.serialize_element(&())?;
-    counting.serialize_element(&true)?;
-    assert_eq!(rt; counting.elements, 2);
-    counting.end()?;
+    assert!(rt; write_elements(&mut list)? == 2);
     list.end()?;
-    assert_eq!(rt; serializer.buffer.as_str(), "[null,true]");
+    assert!(rt; serializer.buffer.as_str() == "[null,true]");
     Ok(())
 }

@@ -16,6 +16,15 @@ pub(crate) fn compact<T: ESTree>(alloc: Global, value: &T) -> Result<String, All
     Ok(serializer.into_string())
 }
 
+// Whether a value is written so. (A test that has the text itself carries what is known of it into each later assertion.)
+pub(crate) fn is_written<T: ESTree>(
+    alloc: Global,
+    value: &T,
+    text: &str,
+) -> Result<bool, AllocError> {
+    Ok(compact(alloc, value)?.as_str() == text)
+}
+
 #[test]
 fn small_values(rt: HostRuntime) -> Result<(), Fail> {
     let alloc = rt.alloc();
@@ -25,43 +34,43 @@ fn small_values(rt: HostRuntime) -> Result<(), Fail> {
         ("[null,false]", JsonSlice(&[None, Some(false)])),
     ];
     for (want, value) in rows {
-        assert_eq!(rt; compact(alloc, &value)?.as_str(), want);
+        assert!(rt; is_written(alloc, &value, want)?);
     }
-    assert_eq!(rt; compact(alloc, &())?.as_str(), "null");
-    assert_eq!(rt; compact(alloc, &[1u8, 2, 3])?.as_str(), "[1,2,3]");
-    assert_eq!(rt; compact(alloc, &[&5u8, &6])?.as_str(), "[5,6]");
+    assert!(rt; is_written(alloc, &(), "null")?);
+    assert!(rt; is_written(alloc, &[1u8, 2, 3], "[1,2,3]")?);
+    assert!(rt; is_written(alloc, &[&5u8, &6], "[5,6]")?);
     let mut number = 5u8;
-    assert_eq!(rt; compact(alloc, &[&mut number])?.as_str(), "[5]");
+    assert!(rt; is_written(alloc, &[&mut number], "[5]")?);
     Ok(())
 }
 
 #[test]
 fn unsigned_integers(rt: HostRuntime) -> Result<(), Fail> {
     let alloc = rt.alloc();
-    assert_eq!(rt; compact(alloc, &u8::MAX)?.as_str(), "255");
-    assert_eq!(rt; compact(alloc, &u16::MAX)?.as_str(), "65535");
-    assert_eq!(rt; compact(alloc, &u32::MAX)?.as_str(), "4294967295");
-    assert_eq!(rt; compact(alloc, &u64::MAX)?.as_str(), "18446744073709551615");
-    assert_eq!(rt;
-        compact(alloc, &u128::MAX)?.as_str(),
-        "340282366920938463463374607431768211455"
-    );
-    assert_eq!(rt; compact(alloc, &0usize)?.as_str(), "0");
+    assert!(rt; is_written(alloc, &u8::MAX, "255")?);
+    assert!(rt; is_written(alloc, &u16::MAX, "65535")?);
+    assert!(rt; is_written(alloc, &u32::MAX, "4294967295")?);
+    assert!(rt; is_written(alloc, &u64::MAX, "18446744073709551615")?);
+    assert!(rt; is_written(alloc, &u128::MAX, "340282366920938463463374607431768211455")?);
+    assert!(rt; is_written(alloc, &0usize, "0")?);
     Ok(())
 }
 
 #[test]
 fn signed_integers(rt: HostRuntime) -> Result<(), Fail> {
     let alloc = rt.alloc();
-    assert_eq!(rt; compact(alloc, &i8::MIN)?.as_str(), "-128");
-    assert_eq!(rt; compact(alloc, &i16::MIN)?.as_str(), "-32768");
-    assert_eq!(rt; compact(alloc, &i32::MIN)?.as_str(), "-2147483648");
-    assert_eq!(rt; compact(alloc, &i64::MIN)?.as_str(), "-9223372036854775808");
-    assert_eq!(rt;
-        compact(alloc, &i128::MIN)?.as_str(),
-        "-170141183460469231731687303715884105728"
+    assert!(rt; is_written(alloc, &i8::MIN, "-128")?);
+    assert!(rt; is_written(alloc, &i16::MIN, "-32768")?);
+    assert!(rt; is_written(alloc, &i32::MIN, "-2147483648")?);
+    assert!(rt; is_written(alloc, &i64::MIN, "-9223372036854775808")?);
+    assert!(rt;
+        is_written(
+            alloc,
+            &i128::MIN,
+            "-170141183460469231731687303715884105728"
+        )?
     );
-    assert_eq!(rt; compact(alloc, &-1isize)?.as_str(), "-1");
+    assert!(rt; is_written(alloc, &-1isize, "-1")?);
     Ok(())
 }
 
@@ -85,15 +94,9 @@ fn lists_put_together(rt: HostRuntime) -> Result<(), Fail> {
     let none: Option<u8> = None;
     let more = [2u8, 3];
     let more = JsonSlice(&more);
-    assert_eq!(rt; compact(alloc, &Concat2(&one, &none))?.as_str(), "[1]");
-    assert_eq!(rt; compact(alloc, &Concat2(&none, &none))?.as_str(), "[]");
-    assert_eq!(rt;
-        compact(alloc, &Concat3(&more, &none, &one))?.as_str(),
-        "[2,3,1]"
-    );
-    assert_eq!(rt;
-        compact(alloc, &Concat2(&Twice(7), &one))?.as_str(),
-        "[7,7,1]"
-    );
+    assert!(rt; is_written(alloc, &Concat2(&one, &none), "[1]")?);
+    assert!(rt; is_written(alloc, &Concat2(&none, &none), "[]")?);
+    assert!(rt; is_written(alloc, &Concat3(&more, &none, &one), "[2,3,1]")?);
+    assert!(rt; is_written(alloc, &Concat2(&Twice(7), &one), "[7,7,1]")?);
     Ok(())
 }

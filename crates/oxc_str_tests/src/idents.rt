@@ -1,12 +1,9 @@
+use crate::texts::written;
 use bumpalo::Bump;
 use oxc_estree::{CompactFormatter, ConfigFixes, ESTree, ESTreeSerializer};
-use oxc_str::{
-    ArenaIdentHashMap, ArenaIdentHashSet, Ident, IdentBuildHasher, IdentHashMap, IdentHashSet, Str,
-    ident_hash, new_const_ident,
-};
-use std::alloc::Global;
+use oxc_str::{Ident, IdentBuildHasher, Str, ident_hash, new_const_ident};
+use std::alloc::{AllocError, Global};
 use std::borrow::CowStr;
-use std::collections::{HashMap, HashSet};
 use std::hash::{BuildHasher, Hash, Hasher};
 use std::test::Fail;
 
@@ -22,22 +19,44 @@ const HASHES: [(&str, u32, u64); 8] = [
     ("exportedBindings2", 0xA0D0_AC9E, 0xA0D0_AC9E_A0C1_AC9E),
 ];
 
-#[test]
-fn hashes_are_those_computed_elsewhere(rt: HostRuntime) -> Result<(), Fail> {
-    for (text, hash, state) in HASHES {
-        assert_eq!(rt; ident_hash(text.as_bytes()), hash);
-        let mut hasher = IdentBuildHasher.build_hasher();
-        assert_eq!(rt; hasher.finish(), 0);
-        new_const_ident(text).hash(&mut hasher);
-        assert_eq!(rt; hasher.finish(), state);
-        hasher.write(text.as_bytes());
-        assert_eq!(rt; hasher.finish(), state);
-    }
-    Ok(())
+// The hash of a text, and the states of a hasher before it, after its identifier and after its bytes.
+fn states(text: &'static str) -> (u32, u64, u64, u64) {
+    let mut hasher = IdentBuildHasher.build_hasher();
+    let empty = hasher.finish();
+    new_const_ident(text).hash(&mut hasher);
+    let of_ident = hasher.finish();
+    hasher.write(text.as_bytes());
+    (
+        ident_hash(text.as_bytes()),
+        empty,
+        of_ident,
+        hasher.finish(),
+    )
 }
 
 #[test]
-fn an_ident_is_its_text_and_hash(rt: HostRuntime) -> Result<(), Fail> {
+fn hashes_are_those_computed_elsewhere(rt: HostRuntime) {
+    for (text, hash, state) in HASHES {
+        assert!(rt; states(text) == (hash, 0, state, state), "{text}");
+    }
+}
+
+#[test]
+fn an_ident_is_its_text_and_hash(rt: HostRuntime) {
+    let ab = new_const_ident("ab");
+    assert!(rt; ab.as_str() == "ab" && ab.as_arena_str() == Str::new_const("ab"));
+    assert!(rt; Ident::empty() == new_const_ident(""));
+    assert!(rt; Ident::new_unhashed("ab") != ab && Ident::new_unhashed("") == Ident::empty());
+}
+
+// An identifier of an owned text that another gave.
+fn of_owned<'a>(alloc: Global, arena: &'a Bump, ident: Ident<'_>) -> Result<Ident<'a>, AllocError> {
+    let owned = CowStr::Owned(ident.into_string(alloc)?);
+    Ident::from_cow_in(arena, &owned)
+}
+
+#[test]
+fn idents_of_an_arena(rt: HostRuntime) -> Result<(), Fail> {
     let alloc: Global = rt.alloc();
     let arena = Bump::new(alloc);
     let ab = new_const_ident("ab");
@@ -65,24 +84,12 @@ fn an_ident_is_its_text_and_hash(rt: HostRuntime) -> Result<(), Fail> {
 }
 
 #[test]
-fn idents_are_keys(rt: HostRuntime) -> Result<(), Fail> {
+fn texts_of_idents(rt: HostRuntime) -> Result<(), Fail> {
     let alloc: Global = rt.alloc();
-    let arena = Bump::new(alloc);
-    let mut counts: IdentHashMap<'_, u32> = HashMap::with_hasher(alloc, IdentBuildHasher);
-    counts.insert(new_const_ident("a"), 1)?;
-    counts.insert(new_const_ident("a"), 2)?;
-    assert_eq!(rt; counts.get(&new_const_ident("a")).copied(), Some(2));
-    let mut arena_counts: ArenaIdentHashMap<'_, u32> = HashMap::with_hasher(
-        &arena,
-        IdentBuildHasher,
-    );
-    arena_counts.insert(new_const_ident("a"), 1)?;
-    assert_eq!(rt; arena_counts.len(), 1);
-    let mut names: IdentHashSet<'_> = HashSet::with_hasher(alloc, IdentBuildHasher);
-    names.insert(new_const_ident("a"))?;
-    assert!(rt; names.contains(&new_const_ident("a")));
-    let mut arena_names: ArenaIdentHashSet<'_> = HashSet::with_hasher(&arena, IdentBuildHasher);
-    arena_names.insert(new_const_ident("a"))?;
-    assert!(rt; !arena_names.contains(&new_const_ident("b")));
+    let ab = new_const_ident("ab");
+    assert!(rt; ab.into_compact_str(alloc)?.as_str() == "ab");
+    assert!(rt; ab.to_compact_str(alloc)?.as_str() == "ab");
+    assert!(rt; format!(in alloc; "{ab}")?.as_str() == "ab");
+    assert!(rt; written(alloc, &ab)?.as_str() == "\"ab\"");
     Ok(())
 }

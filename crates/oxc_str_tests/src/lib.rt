@@ -2,6 +2,10 @@
 #![tactic(auto)]
 
 #[cfg(test)]
+mod characters;
+#[cfg(test)]
+mod ident_tables;
+#[cfg(test)]
 mod idents;
 #[cfg(test)]
 mod patterns;
