@@ -10,3 +10,4 @@ pub mod Bucketed
 pub mod GroupsOfPlaces
 pub mod SlotsByNode
 pub mod ReferencesCounted
+pub mod AllPlaces

@@ -3,7 +3,7 @@ use Rattle.std.specs.Prelude.{◌≡◌, ◌<◌, ℕ, true, false, ◌&&◌, Bo
 use Rattle.std.proofs.Common.{refl, sym, ap, ◌∙◌, subst, arith}
 use Rattle.std.proofs.lemmas.Bool.{and_from, both_ways, eq-eqb, eqb-true}
 use Rattle.std.proofs.lemmas.List.{get_or-map, length-map}
-use Rattle.list_laws.proofs.AllOf.{AllOf, of_members}
+use Rattle.list_laws.proofs.AllOf.{of_members}
 use Rattle.list_laws.proofs.Members.{In, from_filter, from_map, in_at, in_from_Contains, in_map}
 use Rattle.list_laws.proofs.PairsOf.{PairsOf, PairsOf_map}
 use Rattle.list_laws.proofs.Tests.{none_some, some_one, tested, tests_agree, told}

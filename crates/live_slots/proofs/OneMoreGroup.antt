@@ -41,7 +41,6 @@ module _ (ss : List Scope) (t : IsTable ss) where
   lies_in home (p ∷ ps) a = ((within_at p, a.0), lies_in home ps a.1)
 
   module _ (gs : List Numbered) (a : All (IsAmong ss) gs) (order : PairsOf Homes_in_order (extents ss gs)) (i : ℕ) (l : i < length gs) where
-  
     -- where the search for a slot begins
     found_start : (marks : List (List Bool)) (ks : List ℕ) (from last home start : ℕ) → Found ss (extents ss gs) marks ks from last i → start ≡ cond (nat_eq home last) from 0 → Found ss (extents ss gs) marks ks start home i
     found_start marks ks from last home start f e = go (cases_eq home last)

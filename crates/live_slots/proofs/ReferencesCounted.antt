@@ -1,7 +1,6 @@
 -- References are counted for the slots of their places, one after the other.
-use Rattle.std.specs.Prelude.{◌≡◌, ◌⊎◌, ◌<◌, ◌≤◌, ℕ, suc, ◌+◌, Bool, true, false, cond, ◌&&◌, List, [], ◌∷◌, ◌++◌, length, get_or, map, filter, take, replicate, slice_set, Option, Some, None}
-use Rattle.std.proofs.Common.{refl, sym, ap, ap₂, ◌∙◌, subst, arith, inl, inr}
-use Rattle.std.proofs.Math.Bool.{and-true}
+use Rattle.std.specs.Prelude.{◌≡◌, ◌⊎◌, ◌<◌, ◌≤◌, ℕ, suc, ◌+◌, Bool, true, false, cond, ◌&&◌, List, [], ◌∷◌, ◌++◌, length, get_or, map, filter, take, replicate, slice_set, Option, Some, None, IfSome}
+use Rattle.std.proofs.Common.{refl, sym, ap, ap₂, ◌∙◌, arith, inl, inr}
 use Rattle.std.proofs.lemmas.Bool.{cases_eq, eq-eqb, ne_eqb}
 use Rattle.std.proofs.lemmas.List.{ext_get_or, get_or-replicate, get_or-set_other, get_or-set_same, length-map, length-replicate, length-set, length-take-le, take_all, take_more}
 use Rattle.live_slots.proofs.GroupsOfPlaces.{IsOf}
@@ -55,7 +54,7 @@ none_counted es os ws n e = record {
 }
 
 module _ (es : List PlaceEntry) (os : List (Option ℕ)) (ws : List ℕ) (n i : ℕ) (c : Counted es os ws n i) (long : length os ≡ length es) where
-  pub few : (o : Option ℕ) (m : ℕ) → i < length os → length os < m → IsBelow n o → elim o as (λ p. Type 0) [ None ↦ Unit {0} | Some k ↦ get_or ws k 0 + 1 < m ]
+  pub few : (o : Option ℕ) (m : ℕ) → i < length os → length os < m → IsBelow n o → IfSome o (λ k. get_or ws k 0 + 1 < m)
   few None m l h b = tt
   few (Some k) m l h b =
       let w : weight_by (take i es) (take i os) k ≤ length (take i os) = weight_most (take i es) (take i os) k in

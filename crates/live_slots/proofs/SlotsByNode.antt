@@ -1,10 +1,10 @@
 -- Slots by the nodes of leaders are those of their groups.
 use Rattle.std.specs.Prelude.{◌≡◌, ◌⊎◌, ◌<◌, ◌≤◌, ℕ, suc, ◌+◌, Bool, true, false, cond, nat_eq, List, [], ◌∷◌, ◌++◌, length, get_or, map, find, take, drop, replicate, slice_set, is_none, Option, Some, None}
-use Rattle.std.proofs.Common.{refl, sym, ap, ap₂, ◌∙◌, drop-cons, subst, arith, inl, inr}
+use Rattle.std.proofs.Common.{refl, sym, ap, ap₂, ◌∙◌, drop-cons, arith, inl, inr}
+use Rattle.std.proofs.Math.Dec.{eqb-suc-zero}
 use Rattle.std.proofs.lemmas.Bool.{both_ways, cases_eq, eq-eqb, ne_eqb}
-use Rattle.std.proofs.lemmas.List.{get_or-replicate, get_or-set_other, get_or-set_same, length-replicate, length-set, length-take-le, take_all, take_more}
+use Rattle.std.proofs.lemmas.List.{drop_all, get_or-replicate, get_or-set_other, get_or-set_same, length-replicate, length-set, length-take-le, take_all, take_more}
 use Rattle.list_laws.proofs.AllOf.{AllOf}
-use Rattle.live_slots.specs.Open.{all_open}
 use Rattle.live_slots.specs.Slots.{busiest_home, first_slot, put_first, slot_in}
 use Rattle.live_slots.specs.declared.leaders.Leader.{Leader}
 use Rattle.name_rules.specs.Slots.{Slotted, slot_of}
@@ -21,6 +21,14 @@ first_push (q ∷ rs) (j ∷ ks) r k n e = go (nat_eq q.node n) (first_push rs k
         → cond b (Some j) (first_slot (rs ++ r ∷ []) (ks ++ k ∷ []) n) ≡ cond (is_none (cond b (Some j) (first_slot rs ks n))) (cond (nat_eq r.node n) (Some k) None) (cond b (Some j) (first_slot rs ks n))
     go true ih = refl
     go false ih = ih
+
+pub put_new : (os : List (Option ℕ)) (n k : ℕ) → get_or os n None ≡ None → slice_set os n (Some k) ≡ put_first os n k
+unfolding put_first
+put_new os n k e = sym (ap (λ (o : Option ℕ). cond (is_none o) (slice_set os n (Some k)) os) e)
+
+pub put_old : (os : List (Option ℕ)) (n k j : ℕ) → get_or os n None ≡ Some j → os ≡ put_first os n k
+unfolding put_first
+put_old os n k j e = sym (ap (λ (o : Option ℕ). cond (is_none o) (slice_set os n (Some k)) os) e)
 
 -- what stands when the first i slots are put
 pub record Put (rs : List Leader) (ks : List ℕ) (os : List (Option ℕ)) (n i : ℕ) : Type 0 where
@@ -128,4 +136,10 @@ module _ (rs : List Leader) (ks : List ℕ) (n i : ℕ) (d : Leader) (long : len
 
 pub busiest_nowhere : (rs : List Leader) (ks : List ℕ) (n i : ℕ) → length ks ≡ length rs → length ks ≤ i → busiest_home rs ks n ≡ busiest_home (drop i rs) (drop i ks) n → 0 ≡ busiest_home rs ks n
 unfolding busiest_home
-busiest_nowhere rs ks n i long done e = sym (e ∙ ap (λ (xs : List Leader). busiest_home xs (drop i ks) n) (drop-past i rs (omega (arith, done, long))))
+busiest_nowhere rs ks n i long done e = sym (e ∙ ap (λ (xs : List Leader). busiest_home xs (drop i ks) n) (drop_all i rs (omega (arith, done, long))))
+
+pub busiest_of_none : (rs : List Leader) (ks : List ℕ) → busiest_home rs ks 0 ≡ 0
+unfolding busiest_home
+busiest_of_none [] ks = refl
+busiest_of_none (r ∷ rs) [] = refl
+busiest_of_none (r ∷ rs) (k ∷ ks) = ap (λ (b : Bool). cond b r.home (busiest_home rs ks 0)) (eqb-suc-zero k) ∙ busiest_of_none rs ks

@@ -1,6 +1,6 @@
 //! The slots of places, by the leaders of their groups.
 
-ghost use Rattle.std.specs.Prelude.{◌≡◌, ◌<◌, ℕ, All, IfOk, OnOk, None, get_or, length, map};
+ghost use Rattle.std.specs.Prelude.{◌≡◌, ◌<◌, ℕ, All, IfOk, None, get_or, length, map, replicate};
 ghost use Rattle.std.specs.List.{AllByRecursion};
 ghost use Rattle.live_slots.specs.Slots.{first_slot, put_first, slot_in};
 ghost use Rattle.place_list.specs.Bounds.{IsBelow};
@@ -20,21 +20,32 @@ pub(crate) fn node_slots(
     ensures many { IfOk result (λ v. length v.items ≡ bound) }
     ensures slots { IfOk result (λ v. (n : ℕ) → n < bound → get_or v.items n None ≡ first_slot leaders.now slots.now n) }
 {
-    let mut by_node = vec![in alloc; None; bound]?;
+    let mut by_node = no_slots(alloc, bound)?;
     for group in 0..leaders.len() {
         let slot = number(slots[group])?;
-        put_first(by_node.as_mut_slice(), leaders[group].node, slot);
+        put_first(&mut by_node, leaders[group].node, slot);
     }
     Ok(by_node)
 }
 
-// Puts the slot at the node that has none yet.
-fn put_first(by_node: &mut [Option<u32>], node: u32, slot: u32)
-    requires { node < length by_node.old }
-    ensures { by_node.new ≡ put_first by_node.old node slot }
+fn no_slots(alloc: Global, count: usize) -> Result<Vec<Option<u32>>, AllocError>
+    ensures { IfOk result (λ v. v.items ≡ replicate count None) }
 {
-    if by_node[node as usize].is_none() {
-        by_node[node as usize] = Some(slot);
+    let mut all = Vec::new(alloc);
+    for _node in 0..count {
+        all.push(None)?;
+    }
+    Ok(all)
+}
+
+// Puts the slot at the node that has none yet.
+fn put_first(by_node: &mut Vec<Option<u32>>, node: u32, slot: u32)
+    requires { node < length by_node.old.items }
+    ensures { by_node.new.items ≡ put_first by_node.old.items node slot }
+{
+    match by_node[node as usize] {
+        Some(_) => {}
+        None => by_node[node as usize] = Some(slot),
     }
 }
 

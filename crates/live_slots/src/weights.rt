@@ -24,16 +24,16 @@ pub(crate) fn slot_weights(
 {
     let mut weights = vec![in alloc; 0; count]?;
     for i in 0..slots.len() {
-        count_place(weights.as_mut_slice(), &places[i], slots[i]);
+        count_place(&mut weights, &places[i], slots[i]);
     }
     Ok(weights)
 }
 
 // Counts the place for its slot, if it refers.
-fn count_place(weights: &mut [usize], place: &PlaceEntry<'_>, slot: Option<u32>)
-    requires below { IsBelow (length weights.old) slot }
-    requires few { IfSome slot (λ k. get_or weights.old k 0 + 1 < 2 ^ 64) }
-    ensures { weights.new ≡ counted weights.old (refers_at place.now) slot }
+fn count_place(weights: &mut Vec<usize>, place: &PlaceEntry<'_>, slot: Option<u32>)
+    requires below { IsBelow (length weights.old.items) slot }
+    requires few { IfSome slot (λ k. get_or weights.old.items k 0 + 1 < 2 ^ 64) }
+    ensures { weights.new.items ≡ counted weights.old.items (refers_at place.now) slot }
 {
     if refers(place) {
         count_slot(weights, slot);
@@ -41,14 +41,13 @@ fn count_place(weights: &mut [usize], place: &PlaceEntry<'_>, slot: Option<u32>)
 }
 
 #[tactic(auto, unfolding(crate::specs::Slots::counted))]
-fn count_slot(weights: &mut [usize], slot: Option<u32>)
-    requires below { IsBelow (length weights.old) slot }
-    requires few { IfSome slot (λ k. get_or weights.old k 0 + 1 < 2 ^ 64) }
-    ensures { weights.new ≡ counted weights.old true slot }
+fn count_slot(weights: &mut Vec<usize>, slot: Option<u32>)
+    requires below { IsBelow (length weights.old.items) slot }
+    requires few { IfSome slot (λ k. get_or weights.old.items k 0 + 1 < 2 ^ 64) }
+    ensures { weights.new.items ≡ counted weights.old.items true slot }
 {
-    match slot {
-        Some(slot) => weights[slot as usize] += 1,
-        None => {}
+    if let Some(slot) = slot {
+        weights[slot as usize] += 1;
     }
 }
 

@@ -1,4 +1,4 @@
-use Rattle.std.proofs.Common.{◌≡◌, ◌∙◌, arith, sym}
+use Rattle.std.proofs.Common.{◌∙◌, arith, sym}
 use Rattle.live_slots.proofs.OfTrees.{no_one}
 use Rattle.live_slots.proofs.SlotsByNode.{busiest_further, busiest_here, busiest_nowhere}
 use Rattle.live_slots.proofs.busiest.busiest.Goals as goal

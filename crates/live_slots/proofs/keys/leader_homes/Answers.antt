@@ -1,4 +1,4 @@
-use Rattle.std.proofs.Common.{◌≡◌, ◌∙◌, ◌++◌, ◌∷◌, [], List, ℕ, Option, None, arith, ap, ap₂, get_or, take_all}
+use Rattle.std.proofs.Common.{◌∙◌, ◌++◌, ◌∷◌, [], List, ℕ, Option, None, arith, ap, ap₂, take_all}
 use Rattle.live_slots.specs.Leaders.{homes_led}
 use Rattle.live_slots.proofs.GroupsOfPlaces.{homes_more, no_homes}
 use Rattle.place_list.specs.declared.tables.PlaceEntry.{PlaceEntry}

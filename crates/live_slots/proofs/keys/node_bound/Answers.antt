@@ -5,7 +5,7 @@ use Rattle.place_list.specs.Bounds.{IsBelow}
 use Rattle.live_slots.proofs.keys.node_bound.Goals as goal
 
 pub loop-group-preserved : goal.loop-group-preserved
-loop-group-preserved c = bound_more c.args.groups.now c.loop-group.group-index c.loop-group.bound c.above.result None c.loop-group-test.true c.above.ensures.bound c.above.ensures.group c.loop-group.invariant
+loop-group-preserved c = bound_more c.args.groups.now c.loop-group.group-index c.loop-group.bound c.above-bound.result None c.loop-group-test.true c.above-bound.ensures.bound c.above-bound.ensures.group c.loop-group.invariant
 
 pub returns : goal.returns
 returns c =

@@ -1,4 +1,4 @@
-use Rattle.std.proofs.Common.{◌≡◌, ◌∙◌, ◌++◌, ◌∷◌, [], List, ℕ, Option, None, length, ap, map, sym, take_all}
+use Rattle.std.proofs.Common.{◌∙◌, ◌++◌, ◌∷◌, [], List, ℕ, Option, None, length, ap, get_or, map, sym, take_all}
 use Rattle.std.proofs.lemmas.List.{map_more}
 use Rattle.list_laws.proofs.AllOf.{all_by_place}
 use Rattle.live_slots.specs.Slots.{slot_in}
@@ -10,7 +10,7 @@ slot_in-requires c = all_by_place (IsBelow (length c.args.by_node.now)) c.args.g
 
 pub loop-group-preserved : goal.loop-group-preserved
 loop-group-preserved c =
-    c.in_ok-push.ensures.items ∙ ap (λ (o : Option ℕ). c.loop-group.slots.items ++ o ∷ []) c.slot_in.ensures ∙ ap (λ (xs : List (Option ℕ)). xs ++ _ ∷ []) c.loop-group.invariant
+    c.in_ok-push.ensures.items ∙ ap (λ (o : Option ℕ). c.loop-group.slots.items ++ o ∷ []) c.slot_in.ensures ∙ ap (λ (xs : List (Option ℕ)). xs ++ slot_in c.args.by_node.now (get_or c.args.groups.now c.loop-group.group-index None) ∷ []) c.loop-group.invariant
     ∙ sym (map_more (slot_in c.args.by_node.now) c.args.groups.now c.loop-group.group-index None c.loop-group-test.true)
 
 pub returns : goal.returns

@@ -1,12 +1,10 @@
-use Rattle.std.proofs.Common.{◌≡◌, ◌∙◌, Bool, true, false, cond, Some, ap, sym}
-use Rattle.std.specs.List.{slice_set}
-use Rattle.live_slots.specs.Slots.{put_first}
+use Rattle.std.proofs.Common.{◌∙◌, None, sym}
+use Rattle.std.proofs.lemmas.List.{get_or_read}
+use Rattle.live_slots.proofs.SlotsByNode.{put_new, put_old}
 use Rattle.live_slots.proofs.place_slots.put_first.Goals as goal
 
-pub returns-then-is_none : goal.returns-then-is_none
-unfolding put_first
-returns-then-is_none c = ?
+pub returns-in-Some : goal.returns-in-Some
+returns-in-Some c = put_old c.args.by_node.now.items c.args.node c.args.slot _ (sym (get_or_read c.args.by_node.now.items c.args.node c.index.result.now c.requires c.index.ensures None) ∙ c.in-Some.is)
 
-pub returns-else-is_none : goal.returns-else-is_none
-unfolding put_first
-returns-else-is_none c = ?
+pub returns-in-None : goal.returns-in-None
+returns-in-None c = put_new c.args.by_node.now.items c.args.node c.args.slot (sym (get_or_read c.args.by_node.now.items c.args.node c.index.result.now c.requires c.index.ensures None) ∙ c.in-None.is)
