@@ -1,0 +1,73 @@
+-- Numbers at positions, and numbers one after the other, are those of private names.
+use Rattle.std.specs.Prelude.{◌≡◌, ◌⊎◌, ◌≤◌, ◌<◌, ◌+◌, ◌-◌, ℕ, suc, Bool, true, false, nat_lt, List, [], ◌∷◌, ◌++◌, drop, length, get_or, slice_get, Option, Some, None, if◌then◌else◌}
+use Rattle.std.proofs.Common.{inl, inr, refl, sym, ap, ◌∙◌, subst, arith, lt-ltb, le-ltb}
+use Rattle.std.proofs.lemmas.Bool.{cases_lt}
+use Rattle.std.proofs.lemmas.Option.{slice_get-get_or, slice_get_past}
+use Rattle.class_tables.proofs.Positions.{none_passed_over}
+use Rattle.name_rules.specs.PrivateNumbers.{closed_count, nth_unlisted, number_in, open_names}
+use Rattle.tree_nodes.specs.Tree.{Text}
+use Rattle.tree_places.specs.Places.{Place}
+use Rattle.scope_rules.specs.Evals.{is_open}
+use Rattle.scope_rules.specs.PrivateNames.{private_names}
+use Rattle.private_numbers.specs.Numbers.{AreAt, AreConsecutive, AreNumbers, class_number, numbered_names}
+
+module _ (ps : List Place) (outer : List ℕ) (first count end : ℕ) (ns : List ℕ) (at_first : first ≡ closed_count ps outer) (at_end : end ≡ first + count) where
+  many_left : end - first ≡ count
+  many_left = omega (arith, at_end)
+
+  -- the position of a name
+  position : ℕ → ℕ
+  position i = closed_count ps outer + i
+
+  pub numbers_at_positions : AreAt (open_names ps outer) first end ns → AreNumbers ps outer count ns
+  unfolding number_in
+  numbers_at_positions at = record {
+    many = at.many ∙ many_left;
+    each = λ i h. at.each i (subst (λ (m : ℕ). i < m) (sym many_left) h)
+        ∙ ap (λ (p : ℕ). nth_unlisted (open_names ps outer) (suc ((p + i) + length (open_names ps outer))) (p + i) 0) at_first;
+  }
+
+  pub numbers_in_a_row : open_names ps outer ≡ [] → AreConsecutive first end ns → AreNumbers ps outer count ns
+  unfolding number_in
+  numbers_in_a_row none row = record {
+    many = row.many ∙ many_left;
+    each = λ i h. row.each i (subst (λ (m : ℕ). i < m) (sym many_left) h)
+        ∙ ap (λ (p : ℕ). p + i) at_first
+        ∙ sym (ap (λ (xs : List Text). nth_unlisted xs (suc ((closed_count ps outer + i) + length xs)) (closed_count ps outer + i) 0) none
+        ∙ ap (λ (p : ℕ). nth_unlisted [] (suc p) (closed_count ps outer + i) 0) (none_more (closed_count ps outer + i))
+        ∙ none_passed_over (closed_count ps outer + i) 0
+        ∙ from_zero (closed_count ps outer + i));
+  }
+    where
+      none_more : (m : ℕ) → m + 0 ≡ m
+      none_more m = omega arith
+
+      from_zero : (m : ℕ) → 0 + m ≡ m
+      from_zero m = omega arith
+
+module _ (ps : List Place) (c : ℕ) where
+  -- the names that have a number: all where the class body isn't open
+  pub all_numbered : is_open ps c ≡ false → numbered_names ps c ≡ length (private_names ps c)
+  unfolding numbered_names
+  all_numbered f = ap (λ (b : Bool). if b then 0 else length (private_names ps c)) f
+
+  pub none_numbered : (outer : List ℕ) → is_open ps c ≡ true → AreNumbers ps outer (numbered_names ps c) []
+  unfolding numbered_names
+  none_numbered outer f = record {
+    many = sym none;
+    each = λ i h. absurd (let e : numbered_names ps c ≡ 0 = none in omega (arith, e, h));
+  }
+    where
+      none : numbered_names ps c ≡ 0
+      none = ap (λ (b : Bool). if b then 0 else length (private_names ps c)) f
+
+  -- what is read from the list
+  pub number_read : (outer : List ℕ) (ns : List ℕ) → AreNumbers ps outer (numbered_names ps c) ns → (i : ℕ) → slice_get ns i ≡ class_number ps outer c i
+  unfolding class_number
+  number_read outer ns are i = go (cases_lt i (numbered_names ps c))
+    where
+      go : (i < numbered_names ps c) ⊎ (numbered_names ps c ≤ i) → slice_get ns i ≡ (if nat_lt i (numbered_names ps c) then Some (number_in ps outer i) else None)
+      go (inl h) = slice_get-get_or ns i 0 (subst (λ (m : ℕ). i < m) (sym are.many) h) ∙ ap (λ (n : ℕ). Some n) (are.each i h)
+          ∙ sym (ap (λ (b : Bool). if b then Some (number_in ps outer i) else None) (lt-ltb i (numbered_names ps c) h))
+      go (inr h) = slice_get_past ns i (subst (λ (m : ℕ). m ≤ i) (sym are.many) h)
+          ∙ sym (ap (λ (b : Bool). if b then Some (number_in ps outer i) else None) (le-ltb i (numbered_names ps c) h))

@@ -1,0 +1,102 @@
+//! The numbers of all private names of a tree, and the new names by them.
+
+ghost use Rattle.std.specs.Prelude.{◌≡◌, ◌<◌, IfOk, IfSome, IsTrue, length, option_map, slice_get};
+ghost use Rattle.class_tables.specs.PrivateTables.{IsWhole, list_in};
+ghost use Rattle.name_rules.specs.PrivateNumbers.{new_private_name};
+ghost use Rattle.name_rules.specs.ShortNames.{short};
+ghost use Rattle.place_list.specs.TableViews.{places_in};
+ghost use Rattle.private_numbers.specs.Numbers.{class_number, classes_around};
+ghost use Rattle.private_numbers.specs.NewNames.{changed_name, name_or, place_number};
+ghost use Rattle.private_numbers.specs.AllNumbers.{IsNumbered, table_in};
+
+use crate::class_numbers::class_numbers;
+use class_tables::PrivateTable;
+use oxc_data_structures::inline_string::InlineString;
+use oxc_mangler::base54;
+use std::alloc::{AllocError, Global};
+
+/// The numbers of a tree's private names by class body, and the new names by them. Names of open classes have
+/// no numbers: they stay.
+#[derive(Drop)]
+pub struct PrivateNumbers<'n, 'l, 't> {
+    table: &'n PrivateTable<'l, 't>,
+    classes: Vec<Vec<u32>>,
+}
+
+impl<'n, 'l, 't> PrivateNumbers<'n, 'l, 't> {
+    /// The numbers of all private names in this table. Err is want of memory, or of numbers: none is past
+    /// 2^32 - 1.
+    pub fn new(alloc: Global, table: &'n PrivateTable<'l, 't>) -> Result<Self, AllocError>
+        requires { IsWhole table.now }
+        ensures numbered { IfOk result (λ n. IsNumbered n) }
+        ensures table { IfOk result (λ n. table_in n ≡ table.now) }
+    {
+        let count = table.list().class_bodies.as_slice().len();
+        if count > 4_294_967_295 {
+            return Err(AllocError);
+        }
+        let mut classes = Vec::new(alloc);
+        for class_body in 0..count as u32 {
+            classes.push(class_numbers(alloc, table, class_body)?)?;
+        }
+        Ok(PrivateNumbers { table, classes })
+    }
+
+    /// The number of a class body's private name, from 0: none where the class is open, or has no such name.
+    pub fn number(&self, class_body: u32, index: u32) -> Option<u32>
+        requires numbered { IsNumbered self.now }
+        requires class_body { class_body < length (list_in (table_in self.now)).class_bodies.items }
+        ensures { result ≡ class_number (places_in (list_in (table_in self.now))) (classes_around (list_in (table_in self.now)) class_body) class_body index }
+    {
+        self.classes[class_body as usize].get(index as usize).copied()
+    }
+
+    /// The new name of a class body's private name, from 0: none where the class is open, or has no such name.
+    pub fn new_class_name(&self, class_body: u32, index: u32) -> Option<InlineString<7, u8>>
+        requires numbered { IsNumbered self.now }
+        requires class_body { class_body < length (list_in (table_in self.now)).class_bodies.items }
+        ensures { result ≡ option_map short (class_number (places_in (list_in (table_in self.now))) (classes_around (list_in (table_in self.now)) class_body) class_body index) }
+    {
+        name_of(self.number(class_body, index))
+    }
+
+    /// The new name of the i-th place, if it is a private name that is declared in a class which isn't open;
+    /// the others stay.
+    pub fn new_name(&self, i: usize) -> Option<InlineString<7, u8>>
+        requires numbered { IsNumbered self.now }
+        requires index { i < length (list_in (table_in self.now)).places.items }
+        ensures changed { IfSome (slice_get (places_in (list_in (table_in self.now))) i) (λ p. result ≡ changed_name (places_in (list_in (table_in self.now))) p) }
+        ensures name { IfSome (slice_get (places_in (list_in (table_in self.now))) i) (λ p. IsTrue p.site.private → name_or p.name result ≡ new_private_name (places_in (list_in (table_in self.now))) p) }
+    {
+        name_of(self.place_number(i))
+    }
+
+    // The number of the i-th place, if it is a private name and has one.
+    fn place_number(&self, i: usize) -> Option<u32>
+        requires numbered { IsNumbered self.now }
+        requires index { i < length (list_in (table_in self.now)).places.items }
+        ensures { IfSome (slice_get (places_in (list_in (table_in self.now))) i) (λ p. result ≡ place_number (places_in (list_in (table_in self.now))) p) }
+    {
+        let place = self.table.list().place(i);
+        if !place.private {
+            return None;
+        }
+        let Some(class_body) = self.table.declaring_class(i) else {
+            return None;
+        };
+        let Some(index) = self.table.name_index(i) else {
+            return None;
+        };
+        self.number(class_body, index)
+    }
+}
+
+// The short name of a number.
+fn name_of(number: Option<u32>) -> Option<InlineString<7, u8>>
+    ensures { result ≡ option_map short number }
+{
+    match number {
+        Some(number) => Some(base54(number)),
+        None => None,
+    }
+}
