@@ -24,9 +24,13 @@ from_next from (Some p) = from p
 module _ (from : ℕ → List ℕ) (n : ℕ) (next : ℕ → Option ℕ) (falls : (k p : ℕ) → next k ≡ Some p → p < k) (step : (k : ℕ) → k < n → from k ≡ k ∷ from_next from (next k)) where
   follow_by : (fuel k : ℕ) → k < fuel → k < n → Follow from n (from k)
   follow_by zero k h l = absurd (omega (arith, h))
-  follow_by (suc fuel) k h l = subst (Follow from n) (sym (step k l)) (l, step k l, told (next k)
-      (λ e. subst (λ o. Follow from n (from_next from o)) (sym e) tt)
-      (λ p e. subst (λ o. Follow from n (from_next from o)) (sym e) (let j : p < k = falls k p e in follow_by fuel p (omega (arith, j, h)) (omega (arith, j, l)))))
+  follow_by (suc fuel) k h l = subst (Follow from n) (sym (step k l)) (
+    l,
+    step k l,
+    told (next k)
+        (λ e. subst (λ o. Follow from n (from_next from o)) (sym e) tt)
+        (λ p e. subst (λ o. Follow from n (from_next from o)) (sym e) (let j : p < k = falls k p e in follow_by fuel p (omega (arith, j, h)) (omega (arith, j, l)))),
+  )
 
   pub they_follow : (k : ℕ) → k < n → Follow from n (from k)
   they_follow k h = follow_by (suc k) k (omega arith) h

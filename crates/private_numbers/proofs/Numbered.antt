@@ -1,7 +1,10 @@
 -- Numbers at positions, and numbers one after the other, are those of private names.
 use Rattle.std.specs.Prelude.{◌≡◌, ◌⊎◌, ◌≤◌, ◌<◌, ◌+◌, ◌-◌, ℕ, suc, Bool, true, false, nat_lt, List, [], ◌∷◌, ◌++◌, drop, length, get_or, slice_get, Option, Some, None, if◌then◌else◌}
-use Rattle.std.proofs.Common.{inl, inr, refl, sym, ap, ◌∙◌, subst, arith, lt-ltb, le-ltb}
+use Rattle.std.proofs.Common.{inl, inr, refl, sym, ap, ◌∙◌, subst, arith, length-append, lt-ltb, le-ltb}
 use Rattle.std.proofs.lemmas.Bool.{cases_lt}
+use Rattle.std.proofs.lemmas.List.{get_or_append_left}
+use Rattle.std.proofs.Math.Seq.{get_or-append_seam}
+use borrow.Author.Count.{below_more}
 use Rattle.std.proofs.lemmas.Option.{slice_get-get_or, slice_get_past}
 use Rattle.class_tables.proofs.Positions.{none_passed_over}
 use Rattle.name_rules.specs.PrivateNumbers.{closed_count, nth_unlisted, number_in, open_names}
@@ -71,3 +74,30 @@ module _ (ps : List Place) (c : ℕ) where
           ∙ sym (ap (λ (b : Bool). if b then Some (number_in ps outer i) else None) (lt-ltb i (numbered_names ps c) h))
       go (inr h) = slice_get_past ns i (subst (λ (m : ℕ). m ≤ i) (sym are.many) h)
           ∙ sym (ap (λ (b : Bool). if b then Some (number_in ps outer i) else None) (le-ltb i (numbered_names ps c) h))
+
+  -- by the class bodies around in another form
+  pub closed_numbers : (near outer : List ℕ) (count : ℕ) (ns : List ℕ) → is_open ps c ≡ false → near ≡ outer → count ≡ length (private_names ps c) → AreNumbers ps near count ns → AreNumbers ps outer (numbered_names ps c) ns
+  closed_numbers near outer count ns f same many are =
+      subst (λ (cs : List ℕ). AreNumbers ps cs (numbered_names ps c) ns) same
+      (subst (λ (n : ℕ). AreNumbers ps near n ns) (many ∙ sym (all_numbered f)) are)
+
+-- ---- numbers in a row
+
+pub none_in_a_row : (first : ℕ) → AreConsecutive first first []
+none_in_a_row first = record { many = omega arith; each = λ i h. absurd (omega (arith, h)) }
+
+pub one_more_in_a_row : (first number : ℕ) (ns : List ℕ) → first ≤ number → AreConsecutive first number ns → AreConsecutive first (number + 1) (ns ++ number ∷ [])
+one_more_in_a_row first number ns h row = record {
+  many = length-append ns (number ∷ []) ∙ (let e : length ns ≡ number - first = row.many in omega (arith, e, h));
+  each = λ i l. subst (λ (j : ℕ). (k : ℕ) → k < j → get_or (ns ++ number ∷ []) k 0 ≡ first + k) (sym one_more)
+      (below_more (λ k. get_or (ns ++ number ∷ []) k 0 ≡ first + k) (number - first)
+      (λ k j. get_or_append_left ns (number ∷ []) 0 k (subst (λ (m : ℕ). k < m) (sym row.many) j) ∙ row.each k j)
+      (ap (λ (k : ℕ). get_or (ns ++ number ∷ []) k 0) (sym row.many) ∙ get_or-append_seam ns number [] 0 ∙ sym at_end))
+      i l;
+}
+  where
+    one_more : (number + 1) - first ≡ (number - first) + 1
+    one_more = omega (arith, h)
+
+    at_end : first + (number - first) ≡ number
+    at_end = omega (arith, h)

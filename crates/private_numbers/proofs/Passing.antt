@@ -1,6 +1,7 @@
 -- How far a search for numbers whose short names aren't listed has come.
-use Rattle.std.specs.Prelude.{◌≡◌, ◌≤◌, ◌<◌, ◌+◌, ◌-◌, ℕ, suc, Bool, true, false, cond, List, [], ◌∷◌, ◌++◌, length, get_or}
-use Rattle.std.proofs.Common.{refl, sym, ap, ◌∙◌, subst, arith, length-append}
+use Rattle.std.specs.Prelude.{◌≡◌, ◌⊎◌, ◌≤◌, ◌<◌, ◌+◌, ◌-◌, ℕ, suc, Bool, true, false, cond, ◌||◌, List, [], ◌∷◌, ◌++◌, length, get_or, nat_lt, if◌then◌else◌}
+use Rattle.std.proofs.Common.{refl, sym, ap, ◌∙◌, subst, arith, inl, inr, length-append, lt-ltb, le-ltb}
+use Rattle.std.proofs.lemmas.Bool.{cases_lt}
 use Rattle.std.proofs.lemmas.List.{get_or_append_left}
 use borrow.Author.Count.{below_more}
 use Rattle.std.proofs.Math.Seq.{get_or-append_seam}
@@ -8,6 +9,7 @@ use Rattle.name_rules.proofs.NthUnlisted.{nth, nth_is_at, unlisted_in, unlisted_
 use Rattle.name_rules.specs.ShortNames.{short}
 use Rattle.tree_nodes.specs.Tree.{Text}
 use Rattle.scope_rules.specs.PrivateNames.{is_among}
+use Rattle.private_numbers.specs.Numbers.{AreAt}
 
 module _ (listed : List Text) (first : ℕ) where
   -- below a number so many aren't listed, and of these the ones from the first position on are kept
@@ -70,3 +72,19 @@ module _ (listed : List Text) (first : ℕ) where
 
         at_end : first + (passed - first) ≡ passed
         at_end = omega (arith, h)
+
+    -- in code
+    pub passed_on : is_among listed (short number) ≡ false → (ms : List ℕ) → ms ≡ (if nat_lt passed first then ns else ns ++ number ∷ []) → IsPassed (number + 1) (passed + 1) ms
+    passed_on f ms e = go (cases_lt passed first)
+      where
+        go : (passed < first) ⊎ (first ≤ passed) → IsPassed (number + 1) (passed + 1) ms
+        go (inl h) = subst (IsPassed (number + 1) (passed + 1)) (sym (e ∙ ap (λ (b : Bool). if b then ns else ns ++ number ∷ []) (lt-ltb passed first h))) (passed_before f h)
+        go (inr h) = subst (IsPassed (number + 1) (passed + 1)) (sym (e ∙ ap (λ (b : Bool). if b then ns else ns ++ number ∷ []) (le-ltb passed first h))) (passed_kept f h)
+
+    pub passed_step : (avoided : Bool) → is_among listed (short number) ≡ avoided → (n : ℕ) (ms : List ℕ) → n ≡ (if avoided then passed else passed + 1)
+        → ms ≡ (if avoided || nat_lt passed first then ns else ns ++ number ∷ []) → IsPassed (number + 1) n ms
+    passed_step true f n ms e g = subst (λ (m : ℕ). IsPassed (number + 1) m ms) (sym e) (subst (IsPassed (number + 1) passed) (sym g) (passed_over f))
+    passed_step false f n ms e g = subst (λ (m : ℕ). IsPassed (number + 1) m ms) (sym e) (passed_on f ms g)
+
+  pub all_passed : (number end : ℕ) (ns : List ℕ) → IsPassed number end ns → AreAt listed first end ns
+  all_passed number end ns p = record { many = p.many; each = p.each }

@@ -1,32 +1,42 @@
 //! The numbers of the private names of one class.
 
-ghost use Rattle.std.specs.Prelude.{◌≡◌, ◌≤◌, ◌<◌, IfOk, length};
+ghost use Rattle.std.specs.Prelude.{◌≡◌, ◌≤◌, ◌<◌, ◌+◌, ◌^◌, ◌∷◌, ◌++◌, ◌||◌, [], IfOk, OnOk, if◌then◌else◌, length, nat_lt};
 ghost use Rattle.class_tables.specs.PrivateTables.{IsWhole, list_in};
 ghost use Rattle.place_list.specs.Bounds.{IsBelow};
 ghost use Rattle.place_list.specs.TableViews.{classes_at, places_in};
 ghost use Rattle.name_rules.specs.PrivateNumbers.{open_names};
 ghost use Rattle.private_numbers.specs.Numbers.{AreAt, AreClassNumbers, AreConsecutive, AreNumbers};
 
-use crate::avoided::{is_avoided, lies_in_open};
+use crate::avoided::{class_around, is_avoided, lies_in_open};
 use class_tables::PrivateTable;
 use oxc_mangler::base54;
 use std::alloc::{AllocError, Global};
 
-// The numbers of a class body's private names, none where it is open. Err is want of memory, or of numbers.
+// The numbers of the private names of one class body, none where it is open.
+#[derive(Drop)]
+pub(crate) struct ClassNumbers {
+    pub numbers: Vec<u32>,
+}
+
+// The numbers of a class body's private names. Err is want of memory, or of numbers.
 pub(crate) fn class_numbers(
     alloc: Global,
     table: &PrivateTable<'_, '_>,
     class_body: u32,
-) -> Result<Vec<u32>, AllocError>
+) -> Result<ClassNumbers, AllocError>
     requires whole { IsWhole table.now }
     requires class_body { class_body < length (list_in table.now).class_bodies.items }
-    ensures { IfOk result (λ v. AreClassNumbers (list_in table.now) class_body v.items) }
+    ensures { IfOk result (λ n. AreClassNumbers (list_in table.now) class_body n.numbers.items) }
 {
     if table.is_open(class_body) {
-        return Ok(Vec::new(alloc));
+        return Ok(ClassNumbers {
+            numbers: Vec::new(alloc),
+        });
     }
-    let outwards = table.list().outer_class(class_body);
-    numbers_inside(alloc, table, outwards, table.private_names(class_body).len())
+    let outwards = class_around(table, class_body);
+    let count = table.private_names(class_body).len();
+    let numbers = numbers_inside(alloc, table, outwards, count)?;
+    Ok(ClassNumbers { numbers })
 }
 
 // The numbers of so many private names of a class that isn't open, inside this class body.
@@ -84,12 +94,30 @@ fn unlisted(
         if passed == end {
             return Ok(numbers);
         }
-        if !is_avoided(table, outwards, base54(number).as_str()) {
-            if passed >= first {
-                numbers.push(number)?;
-            }
-            passed += 1;
-        }
+        let avoided = is_avoided(table, outwards, base54(number).as_str());
+        passed = take_in(avoided, first, passed, &mut numbers, number)?;
     }
     Err(AllocError)
+}
+
+// Takes in the next number: it is kept where its name isn't avoided and its position is not before the first
+// one. Answers how many numbers have passed then.
+fn take_in(
+    avoided: bool,
+    first: u32,
+    passed: u32,
+    numbers: &mut Vec<u32>,
+    number: u32,
+) -> Result<u32, AllocError>
+    requires { passed + 1 < 2 ^ 32 }
+    ensures passed { IfOk result (λ n. n ≡ (if avoided then passed else passed + 1)) }
+    ensures numbers { OnOk result (numbers.new.items ≡ (if avoided || nat_lt passed first then numbers.old.items else numbers.old.items ++ number ∷ [])) }
+{
+    if avoided {
+        return Ok(passed);
+    }
+    if passed >= first {
+        numbers.push(number)?;
+    }
+    Ok(passed + 1)
 }
