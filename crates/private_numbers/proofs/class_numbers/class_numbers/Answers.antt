@@ -20,5 +20,5 @@ returns c =
     let l = list_in c.args.table.now in
     closed_numbers (places_in l) c.args.class_body (classes_at l c.class_around-outwards.result) (classes_around l c.args.class_body) _ _ (sym c.is_open.ensures ∙ c.if-is_open.false)
     (sym (ap (drop 1) c.class_around-outwards.ensures.outwards))
-    (c.len-count.ensures ∙ sym (length-map c.private_names.result.now (λ (n : Bor Text). n.now)) ∙ ap length c.private_names.ensures)
+    (sym (length-map c.private_names-count.result.now (λ (n : Bor Text). n.now)) ∙ ap length c.private_names-count.ensures)
     c.in_ok-numbers.ensures

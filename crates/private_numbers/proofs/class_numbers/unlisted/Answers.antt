@@ -10,7 +10,7 @@ use Rattle.private_numbers.proofs.class_numbers.unlisted.Goals as goal
 pub loop-number-init : goal.loop-number-init
 loop-number-init c =
     let listed = open_names (places_in (list_in c.args.table.now)) (classes_at (list_in c.args.table.now) c.args.outwards) in
-    record { passed = subst (IsPassed listed c.args.first 0 0) (sym c.new.ensures.items) (nothing_passed listed c.args.first); below = omega arith }
+    record { passed = subst (IsPassed listed c.args.first 0 0) (sym c.new-numbers.ensures.items) (nothing_passed listed c.args.first); below = omega arith }
 
 still_below : (avoided : Bool) (passed end n : ℕ) → passed ≤ end → (passed ≡ end → ⊥) → n ≡ (if avoided then passed else passed + 1) → n ≤ end
 still_below true passed end n h f e = omega (arith, h, e)
