@@ -1,7 +1,6 @@
 -- The number of a private name is that of its place in the class body that declares it.
-use Rattle.std.specs.Prelude.{◌≡◌, ◌<◌, ℕ, zero, suc, Bool, true, false, cond, nat_lt, List, [], ◌∷◌, drop, length, Option, Some, None, option_map, if◌then◌else◌}
+use Rattle.std.specs.Prelude.{◌≡◌, ◌<◌, ℕ, zero, suc, Bool, true, nat_lt, List, [], ◌∷◌, drop, length, Option, Some, None, if◌then◌else◌}
 use Rattle.std.proofs.Common.{refl, sym, ap, ◌∙◌, subst, arith, lt-ltb, le-ltb}
-use Rattle.std.proofs.lemmas.Bool.{both_ways}
 use Rattle.list_laws.proofs.Tests.{none_some, some_one, tested, told}
 use Rattle.name_rules.proofs.PrivateChains.{index_below}
 use Rattle.name_rules.specs.PrivateNumbers.{index_of, number_in, private_number}

@@ -1,5 +1,5 @@
 -- The number of a place is that of the name in the class body that declares it.
-use Rattle.std.specs.Prelude.{◌≡◌, ◌<◌, ℕ, Bool, true, false, List, length, slice_get, Option, Some, None, IfSome, IsTrue, option_map, if◌then◌else◌}
+use Rattle.std.specs.Prelude.{◌≡◌, ◌<◌, ℕ, Bool, true, false, List, length, Option, Some, None, IfSome, IsTrue, option_map, if◌then◌else◌}
 use Rattle.std.proofs.Common.{refl, sym, ap, ◌∙◌, subst}
 use Rattle.list_laws.proofs.Tests.{none_some, some_one}
 use Rattle.class_tables.proofs.ListedPlaces.{class_below}

@@ -1,4 +1,4 @@
-use Rattle.std.proofs.Common.{◌∙◌, ◌||◌, ap, length, sym, subst, Some, Bool, List, Option, ℕ}
+use Rattle.std.proofs.Common.{◌∙◌, ◌||◌, ap, length, sym, subst, Some, Bool, Option, ℕ}
 use Rattle.std.specs.List.{list_any}
 use Rattle.class_tables.specs.PrivateTables.{list_in}
 use Rattle.place_list.proofs.OutwardWalks.{lower}

@@ -1,4 +1,4 @@
-use Rattle.std.specs.Prelude.{List, drop, length, map, ℕ}
+use Rattle.std.specs.Prelude.{List, drop, length, ℕ}
 use Rattle.std.specs.Borrow.{Bor}
 use Rattle.std.proofs.Common.{◌∙◌, ap, sym, subst}
 use Rattle.std.proofs.lemmas.List.{length-map}

@@ -1,5 +1,5 @@
-use Rattle.std.specs.Prelude.{◌<◌, ◌+◌, ℕ, List, length}
-use Rattle.std.proofs.Common.{subst, sym, ap, ◌∙◌, rules, arith}
+use Rattle.std.specs.Prelude.{◌<◌, ◌+◌, ℕ, List}
+use Rattle.std.proofs.Common.{subst, sym, rules}
 use Rattle.class_tables.specs.PrivateTables.{list_in}
 use Rattle.private_numbers.specs.AllNumbers.{numbers_at}
 use Rattle.private_numbers.specs.Numbers.{AreClassNumbers}

@@ -1,10 +1,10 @@
-use Rattle.std.specs.Prelude.{Option, ℕ, option_map, slice_get}
+use Rattle.std.specs.Prelude.{option_map, slice_get}
 use Rattle.std.proofs.Common.{ap, ◌∙◌}
 use Rattle.class_tables.specs.PrivateTables.{list_in}
 use Rattle.name_rules.specs.ShortNames.{short}
 use Rattle.place_list.specs.TableViews.{places_in}
 use Rattle.private_numbers.specs.AllNumbers.{table_in}
-use Rattle.private_numbers.specs.NewNames.{changed_name, name_or, place_number}
+use Rattle.private_numbers.specs.NewNames.{changed_name, name_or}
 use Rattle.private_numbers.proofs.Places.{if_some, named_anew}
 use Rattle.private_numbers.proofs.numbers.PrivateNumbers.new_name.Goals as goal
 

@@ -1,4 +1,4 @@
-use Rattle.std.specs.Prelude.{◌≡◌, Bool, false, true, ℕ, Option, Some, None, option_map, slice_get}
+use Rattle.std.specs.Prelude.{◌≡◌, false, true, ℕ, Option, Some, None, option_map}
 use Rattle.std.proofs.Common.{◌∙◌, rules}
 use Rattle.class_tables.specs.PrivateTables.{list_in}
 use Rattle.name_rules.specs.PrivateNumbers.{index_of}
