@@ -1,26 +1,25 @@
 -- Numbers at positions, and numbers one after the other, are those of private names.
-use Rattle.std.specs.Prelude.{◌≡◌, ◌⊎◌, ◌≤◌, ◌<◌, ◌+◌, ◌-◌, ℕ, suc, Bool, true, false, nat_lt, List, [], ◌∷◌, ◌++◌, length, get_or, slice_get, Some, None, if◌then◌else◌}
+use Rattle.std.specs.Prelude.{◌≡◌, ◌⊎◌, ◌≤◌, ◌<◌, ◌+◌, ◌-◌, ℕ, suc, Bool, true, false, nat_lt, List, [], ◌∷◌, ◌++◌, length, get_or, slice_get, Option, Some, None, IfSome, if◌then◌else◌}
 use Rattle.std.proofs.Common.{inl, inr, sym, ap, ◌∙◌, subst, arith, length-append, lt-ltb, le-ltb}
 use Rattle.std.proofs.lemmas.Bool.{cases_lt}
 use Rattle.std.proofs.lemmas.List.{get_or_append_left}
 use Rattle.std.proofs.Math.Seq.{get_or-append_seam}
 use borrow.Author.Count.{below_more}
 use Rattle.std.proofs.lemmas.Option.{slice_get-get_or, slice_get_past}
+use Rattle.list_laws.proofs.Tests.{none_some, some_one}
 use Rattle.class_tables.proofs.Positions.{none_passed_over}
+use Rattle.name_rules.proofs.NthUnlisted.{nth_is_unlisted}
 use Rattle.name_rules.specs.PrivateNumbers.{closed_count, nth_unlisted, number_in, open_names}
+use Rattle.name_rules.specs.ShortNames.{short}
 use Rattle.tree_nodes.specs.Tree.{Text}
 use Rattle.tree_places.specs.Places.{Place}
 use Rattle.scope_rules.specs.Evals.{is_open}
-use Rattle.scope_rules.specs.PrivateNames.{private_names}
+use Rattle.scope_rules.specs.PrivateNames.{is_among, private_names}
 use Rattle.private_numbers.specs.Numbers.{AreAt, AreConsecutive, AreNumbers, class_number, numbered_names}
 
 module _ (ps : List Place) (outer : List ℕ) (first count end : ℕ) (ns : List ℕ) (at_first : first ≡ closed_count ps outer) (at_end : end ≡ first + count) where
   many_left : end - first ≡ count
   many_left = omega (arith, at_end)
-
-  -- the position of a name
-  position : ℕ → ℕ
-  position i = closed_count ps outer + i
 
   pub numbers_at_positions : AreAt (open_names ps outer) first end ns → AreNumbers ps outer count ns
   unfolding number_in
@@ -74,6 +73,27 @@ module _ (ps : List Place) (c : ℕ) where
           ∙ sym (ap (λ (b : Bool). if b then Some (number_in ps outer i) else None) (lt-ltb i (numbered_names ps c) h))
       go (inr h) = slice_get_past ns i (subst (λ (m : ℕ). m ≤ i) (sym are.many) h)
           ∙ sym (ap (λ (b : Bool). if b then Some (number_in ps outer i) else None) (le-ltb i (numbered_names ps c) h))
+
+  -- the number of a name that has one
+  pub number_told : (outer : List ℕ) (i k : ℕ) → is_open ps c ≡ false → class_number ps outer c i ≡ Some k → (i < length (private_names ps c)) × (number_in ps outer i ≡ k)
+  unfolding class_number
+  number_told outer i k f e = go (cases_lt i (numbered_names ps c))
+    where
+      go : (i < numbered_names ps c) ⊎ (numbered_names ps c ≤ i) → (i < length (private_names ps c)) × (number_in ps outer i ≡ k)
+      go (inl h) = (
+        subst (λ (m : ℕ). i < m) (all_numbered f) h,
+        some_one (number_in ps outer i) k (sym (ap (λ (b : Bool). if b then Some (number_in ps outer i) else None) (lt-ltb i (numbered_names ps c) h)) ∙ e),
+      )
+      go (inr h) = absurd (none_some k (sym (ap (λ (b : Bool). if b then Some (number_in ps outer i) else None) (le-ltb i (numbered_names ps c) h)) ∙ e))
+
+  -- its short name is none of an open class around
+  pub number_avoids : (outer : List ℕ) (i : ℕ) → IfSome (class_number ps outer c i) (λ n. is_among (open_names ps outer) (short n) ≡ false)
+  unfolding class_number number_in
+  number_avoids outer i = go (nat_lt i (numbered_names ps c))
+    where
+      go : (b : Bool) → IfSome (if b then Some (number_in ps outer i) else None) (λ n. is_among (open_names ps outer) (short n) ≡ false)
+      go true = nth_is_unlisted (open_names ps outer) (closed_count ps outer + i)
+      go false = tt
 
   -- by the class bodies around in another form
   pub closed_numbers : (near outer : List ℕ) (count : ℕ) (ns : List ℕ) → is_open ps c ≡ false → near ≡ outer → count ≡ length (private_names ps c) → AreNumbers ps near count ns → AreNumbers ps outer (numbered_names ps c) ns

@@ -3,6 +3,8 @@
 
 mod avoided;
 mod class_numbers;
+mod laws;
 mod numbers;
 
+pub use laws::class_numbers_differ;
 pub use numbers::PrivateNumbers;

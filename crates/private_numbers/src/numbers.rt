@@ -1,11 +1,12 @@
 //! The numbers of all private names of a tree, and the new names by them.
 
-ghost use Rattle.std.specs.Prelude.{◌≡◌, ◌<◌, IfOk, IfSome, IsTrue, Some, length, option_map, slice_get};
+ghost use Rattle.std.specs.Prelude.{◌≡◌, ◌<◌, IfOk, IfSome, IsFalse, IsTrue, Some, length, option_map, slice_get};
 ghost use Rattle.class_tables.specs.PrivateTables.{IsWhole, list_in};
-ghost use Rattle.name_rules.specs.PrivateNumbers.{new_private_name};
+ghost use Rattle.name_rules.specs.PrivateNumbers.{new_private_name, open_names};
 ghost use Rattle.name_rules.specs.ShortNames.{short};
 ghost use Rattle.place_list.specs.Bounds.{IsKnown};
 ghost use Rattle.place_list.specs.TableViews.{list_view, place_in, places_in};
+ghost use Rattle.scope_rules.specs.PrivateNames.{is_among};
 ghost use Rattle.private_numbers.specs.Numbers.{class_number, classes_around};
 ghost use Rattle.private_numbers.specs.NewNames.{changed_name, name_or, place_number};
 ghost use Rattle.private_numbers.specs.AllNumbers.{IsNumbered, numbers_at, table_in};
@@ -49,7 +50,8 @@ impl<'n, 'l, 't> PrivateNumbers<'n, 'l, 't> {
     pub fn number(&self, class_body: u32, index: u32) -> Option<u32>
         requires numbered { IsNumbered self.now }
         requires class_body { class_body < length (list_in (table_in self.now)).class_bodies.items }
-        ensures { result ≡ class_number (places_in (list_in (table_in self.now))) (classes_around (list_in (table_in self.now)) class_body) class_body index }
+        ensures number { result ≡ class_number (places_in (list_in (table_in self.now))) (classes_around (list_in (table_in self.now)) class_body) class_body index }
+        ensures avoids { IfSome result (λ n. IsFalse (is_among (open_names (places_in (list_in (table_in self.now))) (classes_around (list_in (table_in self.now)) class_body)) (short n))) }
     {
         number_at(numbers_of(self.classes.as_slice(), class_body), index)
     }

@@ -1,6 +1,7 @@
-//! The new private names of four classes with classes in them. Members have values in place of methods.
+//! The new private names of two classes with classes in them. Members have values in place of methods.
 
 use class_tables::PrivateTable;
+use oxc_data_structures::inline_string::InlineString;
 use place_list::list_places;
 use private_numbers::PrivateNumbers;
 use std::alloc::{AllocError, Global};
@@ -68,7 +69,10 @@ fn call_of_eval(alloc: Global) -> Result<Field, AllocError> {
 }
 
 fn program(alloc: Global, class: Field) -> Result<Node, AllocError> {
-    let statement = node(Kind::ExpressionStatement, vec![in alloc; class, Field::Empty]?);
+    let statement = node(
+        Kind::ExpressionStatement,
+        vec![in alloc; class, Field::Empty]?,
+    );
     let statements = Field::List(NodeList::from_vec(vec![in alloc; Some(statement)]?));
     let fields = vec![in alloc; statements, Field::Word(0), Field::Empty]?;
     Ok(node(Kind::Program, fields))
@@ -85,28 +89,6 @@ fn twice_declared(alloc: Global) -> Result<Field, AllocError> {
     class(alloc, members)
 }
 
-// `class { #x; m = class { #x; m = class { #y = #x } } }`
-fn hidden(alloc: Global) -> Result<Field, AllocError> {
-    let inner = vec![in alloc;
-        private_member(alloc, "x", Field::Empty)?,
-        public_member(alloc, small_class(alloc, "y", "x")?)?,
-    ]?;
-    let members = vec![in alloc;
-        private_member(alloc, "x", Field::Empty)?,
-        public_member(alloc, class(alloc, inner)?)?,
-    ]?;
-    class(alloc, members)
-}
-
-// `class { #x; m = eval() }`
-fn with_eval(alloc: Global) -> Result<Field, AllocError> {
-    let members = vec![in alloc;
-        private_member(alloc, "x", Field::Empty)?,
-        public_member(alloc, call_of_eval(alloc)?)?,
-    ]?;
-    class(alloc, members)
-}
-
 // `class { #e; m = eval(); m = class { #y = #e } }`
 fn beside_eval(alloc: Global) -> Result<Field, AllocError> {
     let members = vec![in alloc;
@@ -117,67 +99,61 @@ fn beside_eval(alloc: Global) -> Result<Field, AllocError> {
     class(alloc, members)
 }
 
-// Whether these are the names of the places, each with its new name, or with none where it stays.
-fn are_new_names(
-    alloc: Global,
-    class: Field,
-    wanted: &[(&str, Option<&str>)],
-) -> Result<bool, AllocError> {
-    let root = program(alloc, class)?;
-    let list = list_places(alloc, &root)?;
-    let table = PrivateTable::new(alloc, &list)?;
-    let numbers = PrivateNumbers::new(alloc, &table)?;
-    if list.places.len() != wanted.len() {
-        return Ok(false);
+// Whether the new name is this one, or stays where none is wanted.
+fn is_wanted(new_name: Option<InlineString<7, u8>>, wanted: &str) -> bool {
+    match new_name {
+        Some(new_name) => new_name.as_str() == wanted,
+        None => wanted.is_empty(),
     }
-    for i in 0..list.places.len() {
-        let place = list.place(i);
-        let (name, changed) = wanted[i];
-        let new_name = numbers.new_name(i);
-        let same = match (&new_name, changed) {
-            (Some(new_name), Some(changed)) => new_name.as_str() == changed,
-            (None, None) => true,
-            _ => false,
-        };
-        if place.name != name || !same {
-            return Ok(false);
-        }
-    }
-    Ok(true)
 }
 
 #[test]
 fn private_names_are_numbered(rt: HostRuntime) -> Result<(), Fail> {
     let alloc = rt.alloc();
-    let twice = [
-        ("x", Some("e")),
-        ("y", Some("t")),
-        ("y", Some("t")),
-        ("m", None),
-        ("z", Some("n")),
-        ("x", Some("e")),
+    let root = program(alloc, twice_declared(alloc)?)?;
+    let list = list_places(alloc, &root)?;
+    let table = PrivateTable::new(alloc, &list)?;
+    let numbers = PrivateNumbers::new(alloc, &table)?;
+    let places = [
+        ("x", "e"),
+        ("y", "t"),
+        ("y", "t"),
+        ("m", ""),
+        ("z", "n"),
+        ("x", "e"),
     ];
-    assert!(rt; are_new_names(alloc, twice_declared(alloc)?, &twice)?, "twice");
-    let outer = [
-        ("x", Some("e")),
-        ("m", None),
-        ("x", Some("t")),
-        ("m", None),
-        ("y", Some("n")),
-        ("x", Some("t")),
+    assert_eq!(rt; list.places.len(), 6);
+    for i in 0..6 {
+        let (name, wanted) = places[i];
+        assert_eq!(rt; list.places[i].name, name);
+        let new_name = numbers.new_name(i);
+        assert!(rt; is_wanted(new_name, wanted), "{}", name);
+    }
+    Ok(())
+}
+
+#[test]
+fn kept_names_are_avoided(rt: HostRuntime) -> Result<(), Fail> {
+    let alloc = rt.alloc();
+    let root = program(alloc, beside_eval(alloc)?)?;
+    let list = list_places(alloc, &root)?;
+    let table = PrivateTable::new(alloc, &list)?;
+    let numbers = PrivateNumbers::new(alloc, &table)?;
+    let places = [
+        ("e", ""),
+        ("m", ""),
+        ("eval", ""),
+        ("m", ""),
+        ("y", "t"),
+        ("e", ""),
     ];
-    assert!(rt; are_new_names(alloc, hidden(alloc)?, &outer)?, "hidden");
-    let open = [("x", None), ("m", None), ("eval", None)];
-    assert!(rt; are_new_names(alloc, with_eval(alloc)?, &open)?, "open");
-    let beside = [
-        ("e", None),
-        ("m", None),
-        ("eval", None),
-        ("m", None),
-        ("y", Some("t")),
-        ("e", None),
-    ];
-    assert!(rt; are_new_names(alloc, beside_eval(alloc)?, &beside)?, "avoided");
+    assert_eq!(rt; list.places.len(), 6);
+    for i in 0..6 {
+        let (name, wanted) = places[i];
+        assert_eq!(rt; list.places[i].name, name);
+        let new_name = numbers.new_name(i);
+        assert!(rt; is_wanted(new_name, wanted), "{}", name);
+    }
     Ok(())
 }
 

@@ -40,7 +40,7 @@ returns c =
     let e = c.place_of-place.result in
     let t : e.private ≡ true = search rules in
     if_there _ (place_in l e) (λ (q : Place). c.number.result ≡ place_number (places_in l) q) c.place_of-place.ensures.stands
-    (c.number.ensures
+    (c.number.ensures.number
     ∙ declared_at l c.requires.numbered.whole.bounded e c.place_of-place.ensures.known c.in-Some.class_body
     (what_is_there _ (place_in l e) (λ (q : Place). ◌≡◌ {A = Option ℕ} (Some c.in-Some.class_body) (declaring_class (places_in l) q.name q.site.setting.classes)) c.place_of-place.ensures.stands c.in-Some.ensures)
     t c.in-Some-name_index.index
