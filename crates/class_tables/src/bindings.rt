@@ -11,7 +11,7 @@ ghost use Rattle.class_tables.specs.Sights.{AreOf};
 ghost use Rattle.class_tables.specs.Tables.{AreTablesOf};
 
 use crate::class_table::ClassTable;
-use crate::nearest::{Found, declaration};
+use crate::nearest::{Found, declaration, declared_in};
 use place_list::{ClassEntry, PlaceEntry};
 
 // The distinct private names that a class body declares, in the order of their first places.
@@ -20,6 +20,13 @@ pub(crate) fn private_names<'a, 't>(tables: &'a [ClassTable<'t>], class: u32) ->
     ensures { (ps : List Place) → AreTablesOf tables.now ps → map (λ n. n.now) result.now ≡ names_spec.private_names ps class }
 {
     tables[class as usize].names.as_slice()
+}
+
+// Whether a class body declares this private name.
+pub(crate) fn declares(tables: &[ClassTable<'_>], class: u32, name: &str) -> bool
+    ensures { (ps : List Place) → AreTablesOf tables.now ps → result ≡ names_spec.is_among (names_spec.private_names ps class) name.now }
+{
+    declared_in(tables, class, name).is_some()
 }
 
 // Whether a private name is used that no class body around it declares.

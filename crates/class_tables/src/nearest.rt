@@ -63,8 +63,9 @@ fn found_in(tables: &[ClassTable<'_>], class: u32, name: &str) -> Option<Found>
     }
 }
 
+// Where a class body declares a name, if it does.
 #[tactic(auto, unfolding(crate::specs::Tables::at))]
-fn declared_in(tables: &[ClassTable<'_>], class: u32, name: &str) -> Option<Declared>
+pub(crate) fn declared_in(tables: &[ClassTable<'_>], class: u32, name: &str) -> Option<Declared>
     ensures { result ≡ at tables.now class name.now }
 {
     match tables.get(class as usize) {

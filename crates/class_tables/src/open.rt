@@ -41,13 +41,13 @@ fn all_closed(alloc: Global, bodies: &[ClassEntry]) -> Result<Vec<bool>, AllocEr
 }
 
 // Opens the class bodies around a direct eval.
-fn mark_place(open: &mut [bool], bodies: &[ClassEntry], place: &PlaceEntry<'_>)
+fn mark_place(flags: &mut [bool], bodies: &[ClassEntry], place: &PlaceEntry<'_>)
     requires fall { Falls (outer bodies.now) }
-    requires known { IfSome place.now.setting.class_body (λ c. c < length open.old) }
-    ensures { (k : ℕ) → k < length open.old → get_or open.new k false ≡ (get_or open.old k false || evals_in k (sight_of bodies.now place.now)) }
+    requires known { IfSome place.now.setting.class_body (λ c. c < length flags.old) }
+    ensures { (k : ℕ) → k < length flags.old → get_or flags.new k false ≡ (get_or flags.old k false || evals_in k (sight_of bodies.now place.now)) }
 {
     if is_eval(place) {
-        mark(open, bodies, place.setting.class_body);
+        mark(flags, bodies, place.setting.class_body);
     }
 }
 
@@ -66,14 +66,14 @@ fn is_name_eval(name: &str) -> bool
 }
 
 // Opens a class body and those around it.
-fn mark(open: &mut [bool], bodies: &[ClassEntry], class: Option<u32>)
+fn mark(flags: &mut [bool], bodies: &[ClassEntry], class: Option<u32>)
     requires fall { Falls (outer bodies.now) }
-    requires known { IfSome class (λ c. c < length open.old) }
-    ensures { (k : ℕ) → k < length open.old → get_or open.new k false ≡ (get_or open.old k false || contains (chain_from (outer bodies.now) class) k) }
+    requires known { IfSome class (λ c. c < length flags.old) }
+    ensures { (k : ℕ) → k < length flags.old → get_or flags.new k false ≡ (get_or flags.old k false || contains (chain_from (outer bodies.now) class) k) }
 {
     let mut at = class;
     while let Some(c) = at {
-        open[c as usize] = true;
+        flags[c as usize] = true;
         at = outer(bodies, c);
     }
 }

@@ -55,6 +55,13 @@ impl<'l, 't> PrivateTable<'l, 't> {
         })
     }
 
+    /// The places that the table is of.
+    pub fn list(&self) -> &'l PlaceList<'t>
+        ensures { result.now ≡ list_in self.now }
+    {
+        self.list
+    }
+
     /// The distinct private names that a class body declares, in the order of their first places.
     pub fn private_names(&self, class_body: u32) -> &[&'t str]
         requires whole { IsWhole self.now }
@@ -62,6 +69,14 @@ impl<'l, 't> PrivateTable<'l, 't> {
         ensures { map (λ n. n.now) result.now ≡ names.private_names (places_in (list_in self.now)) class_body }
     {
         bindings::private_names(self.tables.as_slice(), class_body)
+    }
+
+    /// Whether a class body declares this private name.
+    pub fn declares(&self, class_body: u32, name: &str) -> bool
+        requires { IsWhole self.now }
+        ensures { result ≡ names.is_among (names.private_names (places_in (list_in self.now)) class_body) name.now }
+    {
+        bindings::declares(self.tables.as_slice(), class_body, name)
     }
 
     /// The binding of the private name at the i-th place, if it is one and has one: the node of the place that

@@ -1,6 +1,7 @@
 -- The n-th number whose short name isn't listed.
-use Rattle.std.specs.Prelude.{◌≡◌, ◌⊎◌, ◌≤◌, ℕ, zero, suc, ◌+◌, Bool, true, false, cond, List, [], ◌∷◌, length, map}
+use Rattle.std.specs.Prelude.{◌≡◌, ◌⊎◌, ◌≤◌, ◌<◌, ℕ, zero, suc, ◌+◌, ◌-◌, Bool, true, false, cond, List, [], ◌∷◌, length, map}
 use Rattle.std.proofs.Common.{refl, sym, ap, ◌∙◌, subst, arith, inl, inr}
+use Rattle.std.proofs.lemmas.Bool.{cases_lt}
 use Rattle.std.proofs.lemmas.List.{length-map}
 use Rattle.list_laws.proofs.AllOf.{AllOf, of_each}
 use Rattle.list_laws.proofs.Counting.{no_more}
@@ -77,7 +78,7 @@ module _ (listed : List Text) where
       subst (λ (y : Text). In y listed) w.2 (among_in listed (short w.0) (of_each (λ j. is_among listed (short j) ≡ true) (passed_over fuel n k) w.0 (passed_over_listed fuel n k) w.1))))
 
   -- how many of the d numbers from k on aren't listed
-  unlisted_in : ℕ → ℕ → ℕ
+  unfoldable pub unlisted_in : ℕ → ℕ → ℕ
   unlisted_in k zero = 0
   unlisted_in k (suc d) = cond (is_among listed (short k)) 0 1 + unlisted_in (suc k) d
 
@@ -144,3 +145,72 @@ module _ (listed : List Text) where
 
   pub nth_is_unlisted : (n : ℕ) → is_among listed (short (nth n)) ≡ false
   nth_is_unlisted n = (passed_at n).unlisted
+
+  -- ---- for callers: at which position a number stands
+
+  -- one more
+  pub unlisted_more : (k d : ℕ) → unlisted_in k (suc d) ≡ unlisted_in k d + cond (is_among listed (short (k + d))) 0 1
+  unfolding unlisted_in
+  unlisted_more k zero = zero_more (cond (is_among listed (short k)) 0 1) ∙ ap (λ (j : ℕ). 0 + cond (is_among listed (short j)) 0 1) (no_further k)
+    where
+      zero_more : (m : ℕ) → m + 0 ≡ 0 + m
+      zero_more m = omega arith
+
+      no_further : (m : ℕ) → m ≡ m + 0
+      no_further m = omega arith
+  unlisted_more k (suc d) =
+      ap (λ (m : ℕ). cond (is_among listed (short k)) 0 1 + m) (unlisted_more (suc k) d ∙ ap (λ (j : ℕ). unlisted_in (suc k) d + cond (is_among listed (short j)) 0 1) (further k d))
+      ∙ regrouped (cond (is_among listed (short k)) 0 1) (unlisted_in (suc k) d) (cond (is_among listed (short (k + suc d))) 0 1)
+    where
+      further : (m n : ℕ) → suc m + n ≡ m + suc n
+      further m n = omega arith
+
+      regrouped : (m n o : ℕ) → m + (n + o) ≡ (m + n) + o
+      regrouped m n o = omega arith
+
+  -- numbers further on have no fewer before them
+  never_fewer : (d e : ℕ) → unlisted_in 0 d ≤ unlisted_in 0 (d + e)
+  never_fewer d zero = subst (λ (m : ℕ). unlisted_in 0 d ≤ unlisted_in 0 m) (same d) (omega arith)
+    where
+      same : (m : ℕ) → m ≡ m + 0
+      same m = omega arith
+  never_fewer d (suc e) = subst (λ (m : ℕ). unlisted_in 0 d ≤ unlisted_in 0 m) (next d e)
+      (let ih : unlisted_in 0 d ≤ unlisted_in 0 (d + e) = never_fewer d e in let s = unlisted_more 0 (d + e) in omega (arith, ih, s))
+    where
+      next : (m n : ℕ) → suc (m + n) ≡ m + suc n
+      next m n = omega arith
+
+  more_before : (a b : ℕ) → is_among listed (short a) ≡ false → a < b → unlisted_in 0 a < unlisted_in 0 b
+  more_before a b f h =
+      let gap : ℕ = b - suc a in
+      let e : suc a + gap ≡ b = omega arith in
+      let one : unlisted_in 0 (suc a) ≡ unlisted_in 0 a + 1 = unlisted_more 0 a ∙ ap (λ (j : ℕ). unlisted_in 0 a + cond (is_among listed (short j)) 0 1) (same a) ∙ ap (λ (t : Bool). unlisted_in 0 a + cond t 0 1) f in
+      let far : unlisted_in 0 (suc a) ≤ unlisted_in 0 (suc a + gap) = never_fewer (suc a) gap in
+      subst (λ (m : ℕ). unlisted_in 0 a < unlisted_in 0 m) e (omega (arith, one, far))
+    where
+      same : (m : ℕ) → 0 + m ≡ m
+      same m = omega arith
+
+  -- a number that isn't listed stands where as many before it leave it
+  pub nth_is_at : (r : ℕ) → is_among listed (short r) ≡ false → nth (unlisted_in 0 r) ≡ r
+  nth_is_at r f = go (cases_lt p.far r) (cases_lt r p.far)
+    where
+      p : Passed (unlisted_in 0 r) 0 (nth (unlisted_in 0 r))
+      p = passed_at (unlisted_in 0 r)
+
+      at : nth (unlisted_in 0 r) ≡ p.far
+      at = p.at ∙ same p.far
+        where
+          same : (m : ℕ) → 0 + m ≡ m
+          same m = omega arith
+
+      go : (p.far < r) ⊎ (r ≤ p.far) → (r < p.far) ⊎ (p.far ≤ r) → nth (unlisted_in 0 r) ≡ r
+      go (inl h) u =
+          let less : unlisted_in 0 p.far < unlisted_in 0 r = more_before p.far r (subst (λ (m : ℕ). is_among listed (short m) ≡ false) at p.unlisted) h in
+          let same : unlisted_in 0 p.far ≡ unlisted_in 0 r = p.passed in
+          absurd (omega (arith, less, same))
+      go (inr g) (inl h) =
+          let less : unlisted_in 0 r < unlisted_in 0 p.far = more_before r p.far f h in
+          let same : unlisted_in 0 p.far ≡ unlisted_in 0 r = p.passed in
+          absurd (omega (arith, less, same))
+      go (inr g) (inr h) = let e : nth (unlisted_in 0 r) ≡ p.far = at in omega (arith, e, g, h)

@@ -33,7 +33,7 @@ use Rattle.name_rules.specs.ShortNames.{short}
 
 -- ---- lists of names
 
-index_below : (ns : List Text) (x : Text) → is_among ns x ≡ true → index_of x ns < length ns
+pub index_below : (ns : List Text) (x : Text) → is_among ns x ≡ true → index_of x ns < length ns
 unfolding all_open
 index_below [] x h = absurd (both_ways false refl h)
 index_below (y ∷ ys) x h = go (same_name x y) h (index_below ys x)

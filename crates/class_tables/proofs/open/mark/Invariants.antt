@@ -8,9 +8,9 @@ use Rattle.class_tables.proofs.open.mark.Given as goal
 -- what is open, and what is to be opened, stays the same
 abbrev pub invariant-loop-at : goal.invariant-loop-at
 invariant-loop-at l = record {
-  below : IfSome l.at (λ c. c < length l.open);
-  len : length l.open ≡ length l.fn.open;
-  marked : (k : ℕ) → k < length l.open → (get_or l.open k false || contains (chain_from (outer l.bodies) l.at) k) ≡ (get_or l.fn.open k false || contains (chain_from (outer l.bodies) l.fn.class) k);
+  below : IfSome l.at (λ c. c < length l.flags);
+  len : length l.flags ≡ length l.fn.flags;
+  marked : (k : ℕ) → k < length l.flags → (get_or l.flags k false || contains (chain_from (outer l.bodies) l.at) k) ≡ (get_or l.fn.flags k false || contains (chain_from (outer l.bodies) l.fn.class) k);
 }
 
 abbrev pub decreases-loop-at : goal.decreases-loop-at

@@ -10,15 +10,15 @@ mark_place-requires-clause-known c =
 
 pub loop-place-preserved : goal.loop-place-preserved
 loop-place-preserved c =
-    let l : length c.mark_place.new.«open» ≡ c.loop-place.«open».len = search rules in
-    let back = written_back c.loop-place.«open».len c.mark_place.new.«open» c.loop-place.«open».items l in
+    let l : length c.mark_place.new.flags ≡ c.loop-place.«open».len = search rules in
+    let back = written_back c.loop-place.«open».len c.mark_place.new.flags c.loop-place.«open».items l in
     let same = c.as_mut_slice.ensures.value in
     record {
       opened = λ k h. ap (λ (bs : List Bool). get_or bs k false) back
           ∙ opened_more c.args.bodies.now c.args.places.now c.loop-place.place-index _ c.loop-place-test.true k _ _
           (c.mark_place.ensures k (subst (λ (n : ℕ). k < n) (sym (ap length same ∙ c.loop-place.invariant.len)) h))
           (ap (λ (bs : List Bool). get_or bs k false) same ∙ c.loop-place.invariant.opened k h);
-      len = ap length back ∙ (c.mark_place.auto.«open» ∙ ap length same ∙ c.loop-place.invariant.len);
+      len = ap length back ∙ (c.mark_place.auto.flags ∙ ap length same ∙ c.loop-place.invariant.len);
     }
 
 pub returns-clause-open : goal.returns-clause-open

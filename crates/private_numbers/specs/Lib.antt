@@ -1,0 +1,4 @@
+pub mod Numbers
+pub mod NewNames
+pub mod AllNumbers
+pub mod Laws

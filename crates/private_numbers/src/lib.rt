@@ -1,0 +1,10 @@
+//! The new names of a tree's private names, by number, over its table of private names.
+#![tactic(auto)]
+
+mod avoided;
+mod class_numbers;
+mod laws;
+mod numbers;
+
+pub use laws::class_numbers_differ;
+pub use numbers::PrivateNumbers;
