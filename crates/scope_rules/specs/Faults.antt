@@ -1,5 +1,5 @@
 -- What makes a tree's scopes faulty. A redeclaration, a crossing and an undeclared private name are early errors of ECMA-262 (Static Semantics: Early Errors of Block, Script, Module, Functions, Try and Class Definitions). Three things are refused here that it takes: a plain function in a block of sloppy code and a `var` that crosses a catch parameter (its annex B), since such a name stands for two variables at once, and a parameter that reaches past a declaration of the body, since parameters and body are one scope here.
-use Rattle.std.specs.Prelude.{ℕ, Bool, false, not, ◌&&◌, ◌||◌, nat_eq, List, [], ◌∷◌, Some, None, is_some}
+use Rattle.std.specs.Prelude.{◌≡◌, ◌↔◌, ℕ, Bool, false, not, ◌&&◌, ◌||◌, nat_eq, List, [], ◌∷◌, slice_get, take, Some, None, is_some, IsTrue}
 use Rattle.std.specs.List.{list_any}
 use Rattle.tree_nodes.specs.declared.table.Declared.TheVariants.{Function}
 use Rattle.tree_nodes.specs.declared.table.Role.{Role}
@@ -19,6 +19,15 @@ redeclares same p q = declares_plainly p.site && declares_at same p.name (home p
 unfoldable pub has_redeclaration : {N : Type 0} → (N → N → Bool) → List (Named N) → Bool
 has_redeclaration same [] = false
 has_redeclaration same (p ∷ ps) = list_any (redeclares same p) ps || has_redeclaration same ps
+
+-- it is told at the later of the two: one of the places before p makes with it a redeclaration
+unfoldable pub is_redeclaration : {N : Type 0} → (N → N → Bool) → List (Named N) → Named N → Bool
+is_redeclaration same before p = list_any (λ q. redeclares same q p) before
+
+-- there is a redeclaration exactly where some place is one after those before it
+abbrev pub RedeclarationsStandAtPlaces : Type 0 → Type 0
+RedeclarationsStandAtPlaces N = (same : N → N → Bool) (ps : List (Named N))
+    → IsTrue (has_redeclaration same ps) ↔ ((i : ℕ) × (p : Named N) × (slice_get ps i ≡ Some p) × IsTrue (is_redeclaration same (take i ps) p))
 
 -- ---- a `var` crosses a single place of its name: at its scope or further out, inside its home, lies that place's home
 
