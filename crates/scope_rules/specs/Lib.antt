@@ -4,6 +4,8 @@ pub mod PrivateNames
 pub mod Evals
 pub mod Faults
 pub mod Renamings
+pub mod Symbols
+pub mod References
 pub mod Open
 pub mod Separation
 pub mod FunctionNames
