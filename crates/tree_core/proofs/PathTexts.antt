@@ -106,7 +106,7 @@ wrapped_has_text : (t : Tree) → IsProgram t → HasText (wrapped_value t)
 wrapped_has_text t p =
     let node : HasText (value_of t) = tree_has_text (value_of t) t p.0 in
     let fixes : ItemsHaveText (paths_value (fix_paths t)) = paths_text (fix_paths t) (tree_short t p.2) in
-    ((omega arith, omega arith, omega arith, omega arith, tt), node, (omega arith, omega arith, omega arith, omega arith, omega arith, tt), fixes, tt)
+    ((omega arith, (omega arith, (omega arith, (omega arith, tt)))), node, ((omega arith, (omega arith, (omega arith, (omega arith, (omega arith, tt))))), fixes, tt))
 
 pub wrapped_programs_read : WrappedProgramsRead
 wrapped_programs_read l t p =
