@@ -1,0 +1,68 @@
+//! Which scopes hold a direct eval, and which a WithStatement.
+
+ghost use Rattle.std.specs.Prelude.{◌≡◌, IfOk, not};
+ghost use Rattle.std.specs.List.{list_any};
+ghost use Rattle.kept_names.specs.ScopeFlags.{HasFlags, flag_at};
+ghost use Rattle.name_rules.specs.Kept.{holds_with};
+ghost use Rattle.place_list.specs.Bounds.{IsBounded};
+ghost use Rattle.place_list.specs.TableViews.{list_view, places_in, withs_in};
+ghost use Rattle.scope_rules.specs.Evals as evals;
+
+use arena_core::BitSet;
+use place_list::PlaceList;
+use scope_marks::{is_eval, scopes_with_evals, scopes_with_withs};
+use std::alloc::{AllocError, Global};
+
+/// Flags of scopes, by their numbers, and of what lies outside all of them.
+#[derive(Drop)]
+pub struct ScopeFlags {
+    pub inside: BitSet<Global>,
+    pub outside: bool,
+}
+
+impl ScopeFlags {
+    /// The scopes that hold a direct eval. Err is want of memory.
+    pub fn evals(alloc: Global, list: &PlaceList<'_>) -> Result<Self, AllocError>
+        requires { IsBounded (list_view list.now) }
+        ensures { IfOk result (λ f. HasFlags list.now (evals.holds_eval (places_in list.now)) f) }
+    {
+        Ok(ScopeFlags {
+            inside: scopes_with_evals(alloc, list)?,
+            outside: has_eval(list),
+        })
+    }
+
+    /// The scopes that hold a WithStatement. Err is want of memory.
+    pub fn withs(alloc: Global, list: &PlaceList<'_>) -> Result<Self, AllocError>
+        requires { IsBounded (list_view list.now) }
+        ensures { IfOk result (λ f. HasFlags list.now (holds_with (withs_in list.now)) f) }
+    {
+        Ok(ScopeFlags {
+            inside: scopes_with_withs(alloc, list)?,
+            outside: !list.withs.is_empty(),
+        })
+    }
+
+    /// Whether a scope has the flag. None lies outside all of them.
+    #[tactic(auto, unfolding(crate::specs::ScopeFlags::flag_at))]
+    pub fn has_flag(&self, scope: Option<u32>) -> bool
+        ensures { result ≡ flag_at self.now scope }
+    {
+        match scope {
+            Some(number) => self.inside.has_bit(number as usize),
+            None => self.outside,
+        }
+    }
+}
+
+// Whether there is a direct eval.
+fn has_eval(list: &PlaceList<'_>) -> bool
+    ensures { result ≡ list_any evals.is_eval (places_in list.now) }
+{
+    for place in &list.places {
+        if is_eval(place) {
+            return true;
+        }
+    }
+    false
+}
