@@ -5,6 +5,7 @@ pub mod FirstValues
 pub mod BoundPlaces
 -- which bindings are kept
 pub mod NameCauses
+pub mod ScopesFlagged
 pub mod KeptBindings
 -- groups
 pub mod GroupsFound

@@ -3,11 +3,14 @@ use Rattle.std.specs.Prelude.{◌≡◌, ℕ, Bool, true, false, not, ◌&&◌, 
 use Rattle.std.specs.BTreeMap.{BTreeMap}
 use Rattle.std.specs.Option.{unwrap_or}
 use Rattle.std.proofs.Common.{refl, sym, ap, ◌∙◌}
+use Rattle.kept_names.specs.Keeping.{keeping}
 use Rattle.kept_names.specs.Marks.{HasFirstValues, assigns, gets_value_at, may_get_value}
 use Rattle.kept_names.specs.NamesKept.{first_value}
 use Rattle.kept_names.specs.declared.values.InDeclarator.{InDeclarator}
 use Rattle.list_laws.proofs.FirstOf.{find_nothing}
-use Rattle.name_rules.specs.Kept.{gets_value, has_value, is_assigned, is_declared_with, is_place_of, same_pattern, value_kept}
+use Rattle.mangle_options.specs.Settings.{options_in}
+use Rattle.mangle_options.specs.declared.options.MangleOptions.{MangleOptions}
+use Rattle.name_rules.specs.Kept.{gets_value, has_value, is_assigned, is_declared_with, is_place_of, name_kept, role_kept, same_pattern, value_kept}
 use Rattle.name_rules.specs.Options.{Options}
 use Rattle.place_list.specs.Tables.{listed}
 use Rattle.scope_rules.specs.Bindings.{Bound, is_node, node}
@@ -89,3 +92,9 @@ module _ (o : Options) (bs : List (Bound Text)) (b : Bound Text) where
   pub assigned_is : list_any (assigns o (node b.place)) bs ≡ is_assigned o bs b
   unfolding assigns is_assigned is_place_of
   assigned_is = refl
+
+-- ---- no other setting bears on names that are kept so
+
+pub kept_by_settings : (m : MangleOptions) (renames_root : Bool) (bs : List (Bound Text)) (b : Bound Text) → name_kept (keeping m.keep_names) bs b ≡ name_kept (options_in m renames_root) bs b
+unfolding name_kept role_kept is_declared_with is_assigned value_kept keeping options_in
+kept_by_settings m r bs b = refl

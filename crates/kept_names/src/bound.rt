@@ -42,9 +42,11 @@ fn bound_place<'t>(tables: &ScopeTables<'t>, i: usize) -> BoundPlace<'t>
     ensures shadowed { IsShadowed tables.now.list result }
     ensures stands { Stands tables.now.list result.place }
 {
+    let place = tables.list.place(i);
+    let bindings = tables.bindings();
     BoundPlace {
-        place: tables.list.place(i),
-        binding: tables.bindings()[i],
+        place,
+        binding: bindings[i],
         shadower: tables.shadower(i),
     }
 }

@@ -1,8 +1,9 @@
 //! Which bindings are kept for a cause of their own.
 
-ghost use Rattle.std.specs.Prelude.{◌≡◌, ◌&&◌, not, ℕ, List, IfOk};
+ghost use Rattle.std.specs.Prelude.{◌≡◌, ℕ, List, IfOk};
 ghost use Rattle.std.specs.List.{list_any};
 ghost use Rattle.kept_names.specs.Causes.{AreCauses, keeps_alone};
+ghost use Rattle.kept_names.specs.Sets.{has};
 ghost use Rattle.kept_names.specs.Views.{AllStand, bound_of, bounds_of};
 ghost use Rattle.mangle_options.specs.Settings.{options_in};
 ghost use Rattle.name_rules.specs.Kept as spec;
@@ -121,7 +122,10 @@ fn kept_binding(
     requires { Stands list.now place.now.place }
     ensures { (o : Options) (bs : List (Bound Text)) (n : ℕ) → AreCauses o list.now bs causes.now → is_node result n ≡ keeps_alone o list.now bs n (bound_of list.now place.now) }
 {
-    if is_binding(place) && causes.is_kept_alone(list, place) {
+    if !is_binding(place) {
+        return None;
+    }
+    if causes.is_kept_alone(list, place) {
         Some(place.place.node)
     } else {
         None

@@ -1,6 +1,6 @@
 //! Which scopes hold a direct eval, and which a WithStatement.
 
-ghost use Rattle.std.specs.Prelude.{◌≡◌, IfOk, not};
+ghost use Rattle.std.specs.Prelude.{◌≡◌, IfOk};
 ghost use Rattle.std.specs.List.{list_any};
 ghost use Rattle.kept_names.specs.ScopeFlags.{HasFlags, flag_at};
 ghost use Rattle.name_rules.specs.Kept.{holds_with};
