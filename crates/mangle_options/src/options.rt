@@ -68,10 +68,7 @@ impl MangleOptions {
 }
 
 // A set of the same names. Err is want of memory.
-fn copy_names(
-    alloc: Global,
-    names: &HashSet<CompactStr>,
-) -> Result<HashSet<CompactStr>, AllocError>
+fn copy_names(alloc: Global, names: &HashSet<CompactStr>) -> Result<HashSet<CompactStr>, AllocError>
     ensures same { IfOk result (λ s. AreSameNames s.keys names.now.keys) }
     ensures few { IfOk result (λ s. length s.keys ≤ length names.now.keys) }
 {

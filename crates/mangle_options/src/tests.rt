@@ -13,7 +13,10 @@ fn options_are_copied(rt: HostRuntime) -> Result<(), Fail> {
     options.reserved.insert(CompactStr::new(alloc, "e")?)?;
     let copy = options.try_clone(alloc)?;
     assert_eq!(rt; copy.top_level, Some(true));
-    assert!(rt; !copy.keep_names.function && copy.keep_names.class && !copy.debug, "settings");
+    assert!(rt;
+        !copy.keep_names.function && copy.keep_names.class && !copy.debug,
+        "settings"
+    );
     let listed = copy.reserved_list(alloc)?;
     assert_eq!(rt; listed.as_slice(), ["e"].as_slice());
     let reserved = ReservedNames::new(alloc, &copy)?;

@@ -1,4 +1,4 @@
-use Rattle.std.specs.Prelude.{Bool}
+use Rattle.std.specs.Prelude.{Bool, None, Option, Some, if◌then◌else◌}
 use Rattle.std.specs.BTreeMap.{is_at}
 use Rattle.std.specs.Map.{lookup}
 use Rattle.std.specs.Ordering.{nat_cmp, ordering_then}
@@ -11,7 +11,7 @@ use Rattle.kept_names.specs.Views.{bound_of}
 use Rattle.kept_names.specs.declared.values.InDeclarator.{InDeclarator}
 use Rattle.name_rules.specs.Kept.{value_kept}
 use Rattle.place_list.specs.Tables.{place_of, setting_of, site_of}
-use Rattle.scope_rules.specs.Bindings.{Bound}
+use Rattle.scope_rules.specs.Bindings.{Bound, or_else}
 use Rattle.tree_nodes.specs.Tree.{Text}
 use Rattle.kept_names.proofs.values.first_values.Goals as goal
 use Rattle.kept_names.proofs.values.first_values.Goals.{in-Some+in_ok-put_first, in_default}
@@ -29,7 +29,7 @@ loop-place-preserved c =
     elim c.match-valued.branch [
       | in-Some+in_ok-put_first w ↦ λ p d n. ap (λ m. at_declarator m d n) w.values-is
           ∙ first_more (gets_value_at d n) value (bound_of p) all l.place-index _ h _ _ (l.invariant p d n) (is_at_key c.valued.result d n) w.value_kept.result (c.valued.ensures p d n) (λ _. w.value_kept.ensures)
-          (w.in_ok-put_first.ensures d n ∙ ?)
+          (w.in_ok-put_first.ensures d n ∙ ap (λ (o : Option InDeclarator). or_else (at_declarator l.values d n) (if is_at_key o d n then Some w.value_kept.result else None)) (sym w.in-Some.is))
       | in_default w ↦ λ p d n. ap (λ m. at_declarator m d n) w.values-is
           ∙ first_stays (gets_value_at d n) value (bound_of p) all l.place-index _ h _ (l.invariant p d n) (sym (c.valued.ensures p d n) ∙ ap (λ o. is_at_key o d n) w.in_default.is)
     ]

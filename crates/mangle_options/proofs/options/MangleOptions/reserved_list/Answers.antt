@@ -1,7 +1,7 @@
 use Rattle.std.specs.Borrow.{Bor}
 use Rattle.std.specs.Map.Iter.{deref}
 use Rattle.std.specs.Prelude.{List, ◌++◌, map}
-use Rattle.std.proofs.Common.{ap, sym, ◌∙◌, append_nil}
+use Rattle.std.proofs.Common.{ap, sym, ◌∙◌, append-nil}
 use Rattle.std.proofs.lemmas.Map.Iter.{rest_all, rest_more}
 use Rattle.mangle_options.proofs.NameSets.{listed_more}
 use Rattle.tree_nodes.specs.Tree.{Text}
@@ -20,4 +20,4 @@ loop-name-preserved c =
 pub returns : goal.returns
 returns c =
     let e = rest_all deref c.loop-name.name-iterator c.next.new.self c.next.result c.in-None.is c.next.ensures.steps in
-    sym (append_nil _) ∙ ap (λ (ns : List Text). map (λ n. n.now) c.loop-name.names.items ++ ns) (sym e) ∙ c.loop-name.invariant
+    sym (append-nil _) ∙ ap (λ (ns : List Text). map (λ n. n.now) c.loop-name.names.items ++ ns) (sym e) ∙ c.loop-name.invariant
