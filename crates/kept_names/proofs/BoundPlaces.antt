@@ -1,8 +1,8 @@
 -- The places of a list, each with what it is bound to.
-use Rattle.std.specs.Prelude.{◌≡◌, ◌+◌, ◌<◌, ◌≤◌, ℕ, zero, suc, List, [], ◌∷◌, ◌++◌, length, map, take, get_or, slice_get, Option, Some, IfSome}
+use Rattle.std.specs.Prelude.{◌≡◌, ◌+◌, ◌<◌, ◌≤◌, ℕ, zero, suc, List, [], ◌∷◌, ◌++◌, length, map, take, get_or, slice_get, Option, Some, None}
 use Rattle.std.specs.List.{Contains}
 use Rattle.std.proofs.Common.{refl, sym, ap, subst, ◌∙◌, add-one, inl, inr, ◌⊎◌}
-use Rattle.std.proofs.lemmas.List.{length-map}
+use Rattle.std.proofs.lemmas.List.{get_or_default, length-map}
 use Rattle.kept_names.specs.Views.{bound_of}
 use Rattle.kept_names.specs.declared.bound.BoundPlace.{BoundPlace}
 use Rattle.list_laws.proofs.Members.{In, contains_from_in, from_append, in_from_Contains}
@@ -28,13 +28,13 @@ unfolding bound
 many_bound l = length-map (places_in l) (λ (p : Place). record { place = p; binding = binding same_name (places_in l) p }) ∙ many_places l
 
 -- an entry with its binding stands for the place with its binding
-pub bound_at : (l : PlaceList) (i : ℕ) (e : PlaceEntry) → slice_get (places_in l) i ≡ Some (place_in l e) → (bs : List (Option ℕ)) → bs ≡ bindings same_name (places_in l) → (b : Option ℕ) → i < length bs → b ≡ get_or bs i b
-    → slice_get (bound same_name (places_in l)) i ≡ Some (record { place = place_in l e; binding = b })
+pub bound_at : (l : PlaceList) (i : ℕ) (e : PlaceEntry) → slice_get (places_in l) i ≡ Some (place_in l e) → (bs : List (Option ℕ)) → bs ≡ bindings same_name (places_in l) → i < length bs
+    → (b : Option ℕ) → b ≡ get_or bs i None → slice_get (bound same_name (places_in l)) i ≡ Some (record { place = place_in l e; binding = b })
 unfolding bound bindings
-bound_at l i e read bs are b h at =
+bound_at l i e read bs are h b at =
     mapped_at (λ (p : Place). record { place = p; binding = binding same_name (places_in l) p }) (places_in l) i (place_in l e) read
     ∙ ap (λ (o : Option ℕ). Some (record { place = place_in l e; binding = o }))
-    (some_one _ _ (sym (mapped_at (binding same_name (places_in l)) (places_in l) i (place_in l e) read) ∙ ap (λ (os : List (Option ℕ)). slice_get os i) (sym are) ∙ read_at bs i b h at))
+    (some_one _ _ (sym (mapped_at (binding same_name (places_in l)) (places_in l) i (place_in l e) read) ∙ ap (λ (os : List (Option ℕ)). slice_get os i) (sym are) ∙ read_at bs i (get_or bs i None) h (sym (get_or_default bs i (get_or bs i None) None h))) ∙ sym at)
 
 -- ---- one more
 

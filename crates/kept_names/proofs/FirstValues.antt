@@ -21,10 +21,14 @@ put_present true (Some w) v h = refl
 put_present false None v h = refl
 put_present false (Some w) v h = refl
 
-nothing_more : {V : Type 0} (o : Option V) → o ≡ or_else o None
+pub nothing_more : {V : Type 0} (o : Option V) → o ≡ or_else o None
 unfolding or_else
 nothing_more None = refl
 nothing_more (Some v) = refl
+
+pub same_where : {V : Type 0} (t : Bool) (v w : V) → (t ≡ true → v ≡ w) → ◌≡◌ {A = Option V} (if t then Some v else None) (if t then Some w else None)
+same_where true v w s = ap (λ x. Some x) (s refl)
+same_where false v w s = refl
 
 -- ---- the first that passes
 

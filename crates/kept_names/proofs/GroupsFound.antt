@@ -1,9 +1,10 @@
 -- The groups that a map has are those of the definitions.
 use Rattle.std.specs.Prelude.{◌≡◌, ◌&&◌, ℕ, nat_eq, List, Option, None, Some, find, map, option_map}
 use Rattle.std.specs.BTreeMap.{BTreeMap}
+use Rattle.std.specs.Option.{option_flatten}
 use Rattle.std.proofs.Common.{refl, sym, ap, ◌∙◌}
 use Rattle.std.proofs.lemmas.Simd.{map-map}
-use Rattle.kept_names.specs.GroupsAt.{HasGroups, group_in, or_none_there}
+use Rattle.kept_names.specs.GroupsAt.{HasGroups, group_in}
 use Rattle.kept_names.specs.Views.{bound_of, bounds_of}
 use Rattle.kept_names.specs.declared.bound.BoundPlace.{BoundPlace}
 use Rattle.list_laws.proofs.Mapped.{map_same}
@@ -17,8 +18,7 @@ use Rattle.tree_places.specs.Places.{Place}
 use Rattle.tree_places.specs.Scopes.{Scope}
 
 module _ (ks : List ℕ) (ps : List Place) (bs : List (Bound Text)) (m : BTreeMap ℕ (Option ℕ)) (has : HasGroups ks ps bs m) where
-  there : {Y : Type 0} (f : Y → Option ℕ) (r : Option Y) → or_none_there (option_map f r) ≡ elim r as (λ _. Option ℕ) [ None ↦ None | Some b ↦ f b ]
-  unfolding or_none_there
+  there : {Y : Type 0} (f : Y → Option ℕ) (r : Option Y) → option_flatten (option_map f r) ≡ elim r as (λ _. Option ℕ) [ None ↦ None | Some b ↦ f b ]
   there f None = refl
   there f (Some b) = refl
 
@@ -26,7 +26,7 @@ module _ (ks : List ℕ) (ps : List Place) (bs : List (Bound Text)) (m : BTreeMa
   unfolding group_in group_at
   group_is None = refl
   group_is (Some n) =
-      ap or_none_there (has n)
+      ap option_flatten (has n)
       ∙ there (λ (b : Bound Text). group_of ks n (shadower same_name ps b.place)) (find (λ b. is_binding b && nat_eq (node b.place) n) bs)
 
 module _ (l : PlaceList) (o : Options) (withs : List Scope) (ps : List Place) (places : List BoundPlace) (are : bounds_of l places ≡ bound same_name ps) where

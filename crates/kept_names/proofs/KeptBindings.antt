@@ -1,5 +1,5 @@
 -- The bindings that are kept alone, by number.
-use Rattle.std.specs.Prelude.{◌≡◌, ◌<◌, ℕ, Bool, true, false, cond, not, ◌&&◌, ◌||◌, nat_eq, List, [], ◌∷◌, map, filter, length, Option, Some, None}
+use Rattle.std.specs.Prelude.{◌≡◌, ◌<◌, ℕ, Bool, true, false, cond, not, ◌&&◌, ◌||◌, nat_eq, List, [], ◌∷◌, map, filter, length, Option, Some, None, is_some}
 use Rattle.std.specs.List.{list_any}
 use Rattle.std.proofs.Common.{refl, sym, ap, ◌∙◌, arith}
 use Rattle.std.proofs.lemmas.Bool.{eq-eqb, eqb-true}
@@ -38,13 +38,22 @@ kept_numbers o l bs n = sym (any_of_filtered (λ (b : Bound Text). node b.place)
 -- ---- the root has nothing outside
 
 module _ (l : PlaceList) (bounded : IsBounded (list_view l)) (n : ℕ) (known : n < length l.scopes.items) where
-  pub root_has_none : (o : Option ℕ) → IsBelow n o → scope_at l (Some n) ≡ n ∷ scope_at l o → o ≡ None → true ≡ is_root (scope_at l (Some n))
+  pub root_is : (o : Option ℕ) → IsBelow n o → scope_at l (Some n) ≡ n ∷ scope_at l o → (b : Bool) → is_some o ≡ not b → b ≡ is_root (scope_at l (Some n))
   unfolding is_root
-  root_has_none o below outwards none = sym (ap is_root (outwards ∙ ap (λ (p : Option ℕ). n ∷ scope_at l p) none ∙ ap (λ (s : List ℕ). n ∷ s) (none_outside (lists_in l).scopes)))
-
-  pub others_have_one : (o : Option ℕ) (k : ℕ) → IsBelow n o → scope_at l (Some n) ≡ n ∷ scope_at l o → o ≡ Some k → false ≡ is_root (scope_at l (Some n))
-  unfolding is_root
-  others_have_one None k below outwards some = absurd (cc)
-  others_have_one (Some m) k below outwards some =
+  root_is None below outwards true e = sym (ap is_root (outwards ∙ ap (λ (s : List ℕ). n ∷ s) (none_outside (lists_in l).scopes)))
+  root_is None below outwards false e = absurd (cc)
+  root_is (Some m) below outwards true e = absurd (cc)
+  root_is (Some m) below outwards false e =
       let w : Next (scope_at l) m = scope_outwards l bounded m (omega (arith, below, known)) in
       sym (ap is_root (outwards ∙ ap (λ (s : List ℕ). n ∷ s) w.1.0))
+
+pub none_is_root : (l : PlaceList) → true ≡ is_root (scope_at l None)
+unfolding is_root
+none_is_root l = sym (ap is_root (none_outside (lists_in l).scopes))
+
+-- ---- one of six causes
+
+pub six : {a b c d e f a' b' c' d' e' f' : Bool} → a ≡ a' → b ≡ b' → c ≡ c' → d ≡ d' → e ≡ e' → f ≡ f' → (a || b || c || d || e || f) ≡ (a' || b' || c' || d' || e' || f')
+six {a} {b} {c} {d} {e} {f} {a'} {b'} {c'} {d'} {e'} {f'} p q r s t u =
+    ap (λ (x : Bool). x || b || c || d || e || f) p ∙ ap (λ (x : Bool). a' || x || c || d || e || f) q ∙ ap (λ (x : Bool). a' || b' || x || d || e || f) r
+    ∙ ap (λ (x : Bool). a' || b' || c' || x || e || f) s ∙ ap (λ (x : Bool). a' || b' || c' || d' || x || f) t ∙ ap (λ (x : Bool). a' || b' || c' || d' || e' || x) u

@@ -18,6 +18,14 @@ use Rattle.scope_rules.specs.Homes.{declares}
 use Rattle.std.specs.List.{list_any}
 use Rattle.tree_nodes.specs.Tree.{Text}
 
+pub and_true : (b : Bool) → (b && true) ≡ b
+and_true true = refl
+and_true false = refl
+
+pub and_false : (b : Bool) → (b && false) ≡ false
+and_false true = refl
+and_false false = refl
+
 -- ---- a place that gets a value
 
 same_declarator : (m : Option ℕ) (d : ℕ) → same_pattern (listed m) (d ∷ []) ≡ is_node m d

@@ -1,14 +1,14 @@
 -- Flags of scopes, and of what lies outside all of them.
-use Rattle.std.specs.Prelude.{◌≡◌, ℕ, Bool, true, false, not, ◌&&◌, ◌||◌, List, [], ◌∷◌, get_or, length, map, slice_get, Option, Some, None}
+use Rattle.std.specs.Prelude.{◌≡◌, ℕ, Bool, true, false, not, nat_eq, ◌&&◌, ◌||◌, List, [], ◌∷◌, get_or, length, map, slice_get, Option, Some, None}
 use Rattle.std.specs.List.{list_any}
 use Rattle.std.proofs.Common.{refl, sym, ap, subst, ◌∙◌, arith}
-use Rattle.std.proofs.lemmas.List.{get_or-map}
+use Rattle.std.proofs.Math.Dec.{eqb-suc-zero}
+use Rattle.std.proofs.lemmas.List.{get_or-map, length-map}
 use Rattle.kept_names.specs.ScopeFlags.{HasFlags, flag_at}
 use Rattle.kept_names.specs.declared.scope_flags.ScopeFlags.{ScopeFlags}
 use Rattle.list_laws.proofs.AnyOf.{any_same}
-use Rattle.list_laws.proofs.Tests.{tested}
 use Rattle.name_rules.specs.Kept.{holds_with}
-use Rattle.place_list.specs.TableViews.{scope_at, scopes_in}
+use Rattle.place_list.specs.TableViews.{scope_at, scopes_in, withs_in}
 use Rattle.place_list.specs.Tables.{list_at}
 use Rattle.place_list.specs.declared.tables.PlaceList.{PlaceList}
 use Rattle.scope_marks.proofs.ScopesByNumber.{as_many_scopes, listed_at}
@@ -45,11 +45,19 @@ unfolding holds_eval
 any_eval ps = any_same _ _ ps (λ q i. sym (ap (λ (b : Bool). is_eval q && b) (inside_all q.site.setting.scope) ∙ and_true (is_eval q)))
 
 -- whether there is an item
-unfoldable pub has_item : {X : Type 0} → List X → Bool
+unfoldable has_item : {X : Type 0} → List X → Bool
 has_item [] = false
 has_item (x ∷ xs) = true
 
-pub any_with : (ws : List Scope) → has_item ws ≡ holds_with ws []
+any_with : (ws : List Scope) → has_item ws ≡ holds_with ws []
 unfolding has_item holds_with
 any_with [] = refl
 any_with (w ∷ ws) = sym (ap (λ (b : Bool). b || list_any (λ v. is_inside v []) ws) (inside_all w))
+
+counted : (ws : List Scope) → not (nat_eq (length ws) 0) ≡ has_item ws
+unfolding has_item
+counted [] = refl
+counted (w ∷ ws) = ap not (eqb-suc-zero (length ws))
+
+pub any_of_withs : (l : PlaceList) → not (nat_eq (length l.withs.items) 0) ≡ holds_with (withs_in l) []
+any_of_withs l = ap (λ (n : ℕ). not (nat_eq n 0)) (sym (length-map l.withs.items (list_at (scopes_in l)))) ∙ counted (withs_in l) ∙ any_with (withs_in l)

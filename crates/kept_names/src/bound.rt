@@ -1,6 +1,6 @@
 //! The places of a tree, each with what it is bound to.
 
-ghost use Rattle.std.specs.Prelude.{◌≡◌, ◌<◌, IfOk, Some, length, slice_get};
+ghost use Rattle.std.specs.Prelude.{◌≡◌, ◌<◌, IfOk, None, Some, get_or, length, slice_get};
 ghost use Rattle.place_list.specs.TableViews.{places_in};
 ghost use Rattle.scope_rules.specs.Bindings.{bound, same_name};
 ghost use Rattle.scope_tables.specs.Views.{Stands};
@@ -46,7 +46,15 @@ fn bound_place<'t>(tables: &ScopeTables<'t>, i: usize) -> BoundPlace<'t>
     let bindings = tables.bindings();
     BoundPlace {
         place,
-        binding: bindings[i],
+        binding: binding_at(bindings, i),
         shadower: tables.shadower(i),
     }
+}
+
+// The i-th binding.
+fn binding_at(bindings: &[Option<u32>], i: usize) -> Option<u32>
+    requires { i < length bindings.now }
+    ensures { result ≡ get_or bindings.now i None }
+{
+    bindings[i]
 }

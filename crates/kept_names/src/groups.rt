@@ -2,13 +2,13 @@
 
 ghost use Rattle.std.specs.Prelude.{◌≡◌, ℕ, List, IfOk, OnOk, map};
 ghost use Rattle.std.specs.List.{Contains};
-ghost use Rattle.kept_names.specs.GroupsAt.{HasGroups, HasNumbers, group_in};
+ghost use Rattle.kept_names.specs.GroupsAt.{HasGroups, HasNumbers, TakesGroup, group_in};
 ghost use Rattle.kept_names.specs.Puts.{PutsFirstAt};
 ghost use Rattle.kept_names.specs.Views.{IsShadowed, bounds_of};
 ghost use Rattle.kept_names.specs.declared.bound.BoundPlace.{BoundPlace};
 ghost use Rattle.mangle_options.specs.Settings.{options_in};
 ghost use Rattle.name_rules.specs.Groups.{group_of, members_of};
-ghost use Rattle.name_rules.specs.Kept.{is_kept};
+ghost use Rattle.name_rules.specs.Kept.{has_number, is_kept};
 ghost use Rattle.place_list.specs.TableViews.{places_in, withs_in};
 ghost use Rattle.place_list.specs.declared.tables.PlaceList.{PlaceList};
 ghost use Rattle.scope_tables.specs.WholeTree.{AreTables};
@@ -50,12 +50,24 @@ fn groups_of_bindings(
 {
     let mut groups = BTreeMap::new(alloc);
     for place in places {
-        if is_binding(place) {
-            let group = group_of(kept, place.place.node, place.shadower);
-            put_first(&mut groups, place.place.node, group)?;
-        }
+        put_group(&mut groups, kept, place)?;
     }
     Ok(groups)
+}
+
+// Puts the group of the place, if it is a binding.
+fn put_group(
+    groups: &mut BTreeMap<u32, Option<u32>>,
+    kept: &BTreeSet<u32>,
+    place: &BoundPlace<'_>,
+) -> Result<(), AllocError>
+    ensures { OnOk result (TakesGroup kept.now place.now groups.old groups.new) }
+{
+    if is_binding(place) {
+        let group = group_of(kept, place.place.node, place.shadower);
+        put_first(groups, place.place.node, group)?;
+    }
+    Ok(())
 }
 
 // Puts the group under the node, unless one is there.
@@ -90,9 +102,16 @@ fn group_of(kept: &BTreeSet<u32>, node: u32, shadower: Option<u32>) -> Option<u3
 fn is_kept(kept: &BTreeSet<u32>, node: u32, shadower: Option<u32>) -> bool
     ensures { (ks : List ℕ) → HasNumbers ks kept.now → result ≡ is_kept ks node shadower }
 {
-    match shadower {
-        Some(leader) => has(kept, node) || has(kept, leader),
-        None => has(kept, node),
+    has(kept, node) || has_number(kept, shadower)
+}
+
+// Whether it is a number that the set has.
+fn has_number(kept: &BTreeSet<u32>, number: Option<u32>) -> bool
+    ensures { (ks : List ℕ) → HasNumbers ks kept.now → result ≡ has_number ks number }
+{
+    match number {
+        Some(number) => has(kept, number),
+        None => false,
     }
 }
 
@@ -112,10 +131,11 @@ fn groups_by_place(
 }
 
 // The group of a binding.
-#[tactic(auto, unfolding(crate::specs::GroupsAt::group_in))]
 fn group_in(groups: &BTreeMap<u32, Option<u32>>, binding: Option<u32>) -> Option<u32>
     ensures { result ≡ group_in groups.now binding }
 {
-    let node = binding?;
-    groups.get(&node).copied().flatten()
+    match binding {
+        Some(node) => groups.get(&node).copied().flatten(),
+        None => None,
+    }
 }

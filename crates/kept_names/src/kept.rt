@@ -1,6 +1,6 @@
 //! Which bindings are kept for a cause of their own.
 
-ghost use Rattle.std.specs.Prelude.{◌≡◌, ℕ, List, IfOk};
+ghost use Rattle.std.specs.Prelude.{◌≡◌, ◌&&◌, ◌||◌, ℕ, List, IfOk, not};
 ghost use Rattle.std.specs.List.{list_any};
 ghost use Rattle.kept_names.specs.Causes.{AreCauses, keeps_alone};
 ghost use Rattle.kept_names.specs.Sets.{has};
@@ -69,19 +69,48 @@ impl<'o> Causes<'o> {
         ensures { (o : Options) (bs : List (Bound Text)) → AreCauses o list.now bs self.now → result ≡ spec.is_kept_alone o (withs_in list.now) (places_in list.now) bs (bound_of list.now place.now) }
     {
         let home = home(&place.place);
-        let of_root = is_root(list, home);
-        let exported = has(&self.exported, place.place.node);
+        let of_root = self.is_of_root(list, home);
+        let exported = self.is_exported(list, home, place.place.node);
         let holds_eval = self.evals.has_flag(home);
         let holds_with = self.withs.has_flag(home);
         let reserved = self.reserved.is_reserved(place.place.name);
         let name_kept = self.names.name_kept(place);
-        (of_root && !self.top_level)
-            || (of_root && exported)
-            || holds_eval
-            || holds_with
-            || reserved
-            || name_kept
+        is_any(
+            of_root, exported, holds_eval, holds_with, reserved, name_kept,
+        )
     }
+
+    // Whether the home is the root, whose bindings aren't renamed.
+    fn is_of_root(&self, list: &PlaceList<'_>, home: Option<u32>) -> bool
+        requires bounded { IsBounded (list_view list.now) }
+        requires home { IsScope list.now home }
+        ensures { result ≡ (spec.is_root (scope_at list.now home) && not self.now.top_level) }
+    {
+        is_root(list, home) && !self.top_level
+    }
+
+    // Whether the home is the root, and a place of the binding is declared in an export.
+    fn is_exported(&self, list: &PlaceList<'_>, home: Option<u32>, node: u32) -> bool
+        requires bounded { IsBounded (list_view list.now) }
+        requires home { IsScope list.now home }
+        ensures { result ≡ (spec.is_root (scope_at list.now home) && has self.now.exported node) }
+    {
+        is_root(list, home) && has(&self.exported, node)
+    }
+}
+
+// Whether there is a cause.
+fn is_any(
+    of_root: bool,
+    exported: bool,
+    holds_eval: bool,
+    holds_with: bool,
+    reserved: bool,
+    name_kept: bool,
+) -> bool
+    ensures { result ≡ (of_root || exported || holds_eval || holds_with || reserved || name_kept) }
+{
+    of_root || exported || holds_eval || holds_with || reserved || name_kept
 }
 
 // Whether the scope is the root, or lies outside all scopes.
@@ -114,11 +143,7 @@ pub fn kept_bindings(
 }
 
 // The binding that the place is, if it is kept.
-fn kept_binding(
-    list: &PlaceList<'_>,
-    causes: &Causes<'_>,
-    place: &BoundPlace<'_>,
-) -> Option<u32>
+fn kept_binding(list: &PlaceList<'_>, causes: &Causes<'_>, place: &BoundPlace<'_>) -> Option<u32>
     requires { Stands list.now place.now.place }
     ensures { (o : Options) (bs : List (Bound Text)) (n : ℕ) → AreCauses o list.now bs causes.now → is_node result n ≡ keeps_alone o list.now bs n (bound_of list.now place.now) }
 {

@@ -1,6 +1,6 @@
 //! Which bindings keep their names as functions or classes.
 
-ghost use Rattle.std.specs.Prelude.{◌≡◌, List, IfOk, map};
+ghost use Rattle.std.specs.Prelude.{◌≡◌, ◌||◌, List, IfOk, map};
 ghost use Rattle.kept_names.specs.Keeping.{keeping};
 ghost use Rattle.kept_names.specs.Marks.{HasFirstValues};
 ghost use Rattle.kept_names.specs.NamesKept as spec;
@@ -78,7 +78,7 @@ impl NamesKept {
         let by_role = role_kept(self.keep, place.place.setting.role);
         let declared_with = self.is_declared_with(place);
         let assigned = has(&self.assigned, place.place.node);
-        by_role || declared_with || assigned
+        is_any(by_role, declared_with, assigned)
     }
 
     // Whether the first value that its declarator gives it is one for which names are kept.
@@ -101,6 +101,13 @@ impl NamesKept {
         };
         self.values.get(&key).copied().unwrap_or(false)
     }
+}
+
+// Whether there is a cause.
+fn is_any(by_role: bool, declared_with: bool, assigned: bool) -> bool
+    ensures { result ≡ (by_role || declared_with || assigned) }
+{
+    by_role || declared_with || assigned
 }
 
 // Of each of these places whether it is a binding that keeps its name.

@@ -7,9 +7,10 @@ ghost use Rattle.name_rules.specs.Kept.{holds_with};
 ghost use Rattle.place_list.specs.Bounds.{IsBounded};
 ghost use Rattle.place_list.specs.TableViews.{list_view, places_in, withs_in};
 ghost use Rattle.scope_rules.specs.Evals as evals;
+ghost use Rattle.scope_tables.specs.Views.{places_of};
 
 use arena_core::BitSet;
-use place_list::PlaceList;
+use place_list::{PlaceEntry, PlaceList};
 use scope_marks::{is_eval, scopes_with_evals, scopes_with_withs};
 use std::alloc::{AllocError, Global};
 
@@ -28,7 +29,7 @@ impl ScopeFlags {
     {
         Ok(ScopeFlags {
             inside: scopes_with_evals(alloc, list)?,
-            outside: has_eval(list),
+            outside: has_eval(list, list.places.as_slice()),
         })
     }
 
@@ -39,7 +40,7 @@ impl ScopeFlags {
     {
         Ok(ScopeFlags {
             inside: scopes_with_withs(alloc, list)?,
-            outside: !list.withs.is_empty(),
+            outside: !list.withs.as_slice().is_empty(),
         })
     }
 
@@ -55,11 +56,11 @@ impl ScopeFlags {
     }
 }
 
-// Whether there is a direct eval.
-fn has_eval(list: &PlaceList<'_>) -> bool
-    ensures { result ≡ list_any evals.is_eval (places_in list.now) }
+// Whether one of these places is the callee of a direct eval.
+fn has_eval(list: &PlaceList<'_>, places: &[PlaceEntry<'_>]) -> bool
+    ensures { result ≡ list_any evals.is_eval (places_of list.now places.now) }
 {
-    for place in &list.places {
+    for place in places {
         if is_eval(place) {
             return true;
         }

@@ -1,6 +1,6 @@
 //! The first value that a binding gets in a declarator.
 
-ghost use Rattle.std.specs.Prelude.{◌≡◌, ◌&&◌, ℕ, IfOk, OnOk};
+ghost use Rattle.std.specs.Prelude.{◌≡◌, ◌&&◌, ℕ, IfOk, OnOk, nat_eq};
 ghost use Rattle.kept_names.specs.Keeping.{keeping};
 ghost use Rattle.kept_names.specs.Marks.{HasFirstValues, gets_value_at, may_get_value};
 ghost use Rattle.kept_names.specs.Puts.{PutsFirst, is_at_key};
@@ -60,22 +60,30 @@ fn valued(place: &BoundPlace<'_>) -> Option<InDeclarator>
 fn may_get_value(place: &BoundPlace<'_>) -> bool
     ensures { (l : PlaceList) → result ≡ may_get_value (bound_of l place.now) }
 {
-    declares(&place.place)
-        && has_value(place.place.setting.value)
-        && !place.place.setting.in_rest
+    declares(&place.place) && has_value(place.place.setting.value) && !place.place.setting.in_rest
 }
 
 // Both numbers, if there are both.
-#[tactic(auto, unfolding(crate::specs::Puts::is_at_key))]
 fn in_declarator(declarator: Option<u32>, binding: Option<u32>) -> Option<InDeclarator>
     ensures { (d n : ℕ) → is_at_key result d n ≡ (is_node declarator d && is_node binding n) }
 {
-    let declarator = declarator?;
-    let binding = binding?;
-    Some(InDeclarator {
-        declarator,
-        binding,
-    })
+    match declarator {
+        Some(declarator) => bound_in(declarator, binding),
+        None => None,
+    }
+}
+
+// The binding in this declarator.
+fn bound_in(declarator: u32, binding: Option<u32>) -> Option<InDeclarator>
+    ensures { (d n : ℕ) → is_at_key result d n ≡ (nat_eq declarator d && is_node binding n) }
+{
+    match binding {
+        Some(binding) => Some(InDeclarator {
+            declarator,
+            binding,
+        }),
+        None => None,
+    }
 }
 
 // Puts the value under the key, unless one is there.

@@ -29,13 +29,13 @@ returns c =
     let m = c.in_ok-groups.groups in
     let causes : AreCauses o l bs c.in_ok-causes.causes = subst (λ (xs : List (Bound Text)). AreCauses o l xs c.in_ok-causes.causes) (ap (bounds_of l) c.as_slice.ensures.value ∙ whole.are) c.in_ok-causes.ensures in
     let kept : HasNumbers ks c.in_ok-kept.kept =
-        λ n. c.in_ok-kept.ensures o bs causes n ∙ ap (list_any (keeps_alone o l bs n)) (ap (bounds_of l) c.as_slice-2.ensures.value ∙ whole.are) ∙ kept_numbers o l bs n in
+    λ n. c.in_ok-kept.ensures o bs causes n ∙ ap (list_any (keeps_alone o l bs n)) (ap (bounds_of l) c.as_slice-2.ensures.value ∙ whole.are) ∙ kept_numbers o l bs n in
     let groups : HasGroups ks (places_in l) bs m =
-        subst (λ (xs : List (Bound Text)). HasGroups ks (places_in l) xs m) (ap (bounds_of l) c.as_slice-3.ensures.value ∙ whole.are)
-        (c.in_ok-groups.ensures l ks kept (λ b i. whole.shadowed b (subst (λ (xs : List BoundPlace). Contains xs b) c.as_slice-3.ensures.value i))) in
+    subst (λ (xs : List (Bound Text)). HasGroups ks (places_in l) xs m) (ap (bounds_of l) c.as_slice-3.ensures.value ∙ whole.are)
+    (c.in_ok-groups.ensures l ks kept (λ b i. whole.shadowed b (subst (λ (xs : List BoundPlace). Contains xs b) c.as_slice-3.ensures.value i))) in
     IfOk-weaker c.groups_by_place.result _ _
     (λ v h.
-        h
-        ∙ ap (map (λ (b : BoundPlace). group_in m b.binding)) c.as_slice-4.ensures.value
-        ∙ members_groups l o (withs_in l) (places_in l) c.in_ok-places.places.items whole.are m groups)
+    h
+    ∙ ap (map (λ (b : BoundPlace). group_in m b.binding)) c.as_slice-4.ensures.value
+    ∙ members_groups l o (withs_in l) (places_in l) c.in_ok-places.places.items whole.are m groups)
     c.groups_by_place.ensures

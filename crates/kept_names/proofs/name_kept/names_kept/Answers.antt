@@ -17,7 +17,7 @@ returns c =
     let names = c.in_ok-names.names in
     IfOk-weaker c.kept_by_place.result _ _
     (λ v h.
-        h l bs (subst (λ (xs : List (Bound Text)). KeepsNames xs names) (ap (bounds_of l) c.as_slice.ensures.value ∙ c.in_ok-places.ensures.are) (c.in_ok-names.ensures.names l))
-        ∙ ap (map (keeps_name (keeping names.keep) bs)) (ap (bounds_of l) c.as_slice-2.ensures.value ∙ c.in_ok-places.ensures.are)
-        ∙ ap (λ (k : MangleOptionsKeepNames). map (keeps_name (keeping k) bs) bs) c.in_ok-names.ensures.keep)
+    h l bs (subst (λ (xs : List (Bound Text)). KeepsNames xs names) (ap (bounds_of l) c.as_slice.ensures.value ∙ c.in_ok-places.ensures.are) (c.in_ok-names.ensures.names l))
+    ∙ ap (map (keeps_name (keeping names.keep) bs)) (ap (bounds_of l) c.as_slice-2.ensures.value ∙ c.in_ok-places.ensures.are)
+    ∙ ap (λ (k : MangleOptionsKeepNames). map (keeps_name (keeping k) bs) bs) c.in_ok-names.ensures.keep)
     c.kept_by_place.ensures

@@ -5,4 +5,4 @@ use Rattle.scope_rules.specs.Evals.{is_eval}
 use Rattle.kept_names.proofs.scope_flags.has_eval.Given as goal
 
 abbrev pub invariant-loop-place : goal.invariant-loop-place
-invariant-loop-place l = list_any (λ e. is_eval (place_in l.list e)) (take l.place-index l.list.places.items) ≡ false
+invariant-loop-place l = list_any (λ e. is_eval (place_in l.list e)) (take l.place-index l.places) ≡ false
