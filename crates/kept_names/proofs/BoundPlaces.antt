@@ -1,10 +1,8 @@
 -- The places of a list, each with what it is bound to.
-use Rattle.std.specs.Prelude.{◌≡◌, ◌+◌, ◌<◌, ◌≤◌, ℕ, zero, suc, List, [], ◌∷◌, ◌++◌, length, map, take, get_or, slice_get, Option, Some, None}
+use Rattle.std.specs.Prelude.{◌≡◌, ◌+◌, ◌<◌, ℕ, zero, suc, List, [], ◌∷◌, ◌++◌, length, map, take, get_or, slice_get, Option, Some, None}
 use Rattle.std.specs.List.{Contains}
-use Rattle.std.proofs.Common.{refl, sym, ap, subst, ◌∙◌, add-one, inl, inr, ◌⊎◌}
+use Rattle.std.proofs.Common.{sym, ap, subst, ◌∙◌, add-one, inl, inr, ◌⊎◌}
 use Rattle.std.proofs.lemmas.List.{get_or_default, length-map}
-use Rattle.kept_names.specs.Views.{bound_of}
-use Rattle.kept_names.specs.declared.bound.BoundPlace.{BoundPlace}
 use Rattle.list_laws.proofs.Members.{In, contains_from_in, from_append, in_from_Contains}
 use Rattle.list_laws.proofs.Tests.{some_one}
 use Rattle.place_list.proofs.PlacesStand.{mapped_at, read_at}
@@ -12,8 +10,7 @@ use Rattle.place_list.specs.TableViews.{entry_view, lists_in, place_in, places_i
 use Rattle.place_list.specs.Tables.{place_of}
 use Rattle.place_list.specs.declared.tables.PlaceEntry.{PlaceEntry}
 use Rattle.place_list.specs.declared.tables.PlaceList.{PlaceList}
-use Rattle.scope_rules.specs.Bindings.{Bound, binding, bindings, bound, same_name}
-use Rattle.tree_nodes.specs.Tree.{Text}
+use Rattle.scope_rules.specs.Bindings.{binding, bindings, bound, same_name}
 use Rattle.tree_places.specs.Places.{Place}
 
 pub many_places : (l : PlaceList) → length (places_in l) ≡ length l.places.items

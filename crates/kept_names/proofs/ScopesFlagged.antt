@@ -1,14 +1,14 @@
 -- Flags of scopes, and of what lies outside all of them.
-use Rattle.std.specs.Prelude.{◌≡◌, ℕ, Bool, true, false, not, nat_eq, ◌&&◌, ◌||◌, List, [], ◌∷◌, get_or, length, map, slice_get, Option, Some, None}
+use Rattle.std.specs.Prelude.{◌≡◌, ℕ, Bool, true, false, not, nat_eq, ◌&&◌, ◌||◌, List, [], ◌∷◌, get_or, length, map, slice_get, Some, None}
 use Rattle.std.specs.List.{list_any}
-use Rattle.std.proofs.Common.{refl, sym, ap, subst, ◌∙◌, arith}
+use Rattle.std.proofs.Common.{refl, sym, ap, ◌∙◌, arith}
 use Rattle.std.proofs.Math.Dec.{eqb-suc-zero}
 use Rattle.std.proofs.lemmas.List.{get_or-map, length-map}
 use Rattle.kept_names.specs.ScopeFlags.{HasFlags, flag_at}
 use Rattle.kept_names.specs.declared.scope_flags.ScopeFlags.{ScopeFlags}
 use Rattle.list_laws.proofs.AnyOf.{any_same}
 use Rattle.name_rules.specs.Kept.{holds_with}
-use Rattle.place_list.specs.TableViews.{scope_at, scopes_in, withs_in}
+use Rattle.place_list.specs.TableViews.{scopes_in, withs_in}
 use Rattle.place_list.specs.Tables.{list_at}
 use Rattle.place_list.specs.declared.tables.PlaceList.{PlaceList}
 use Rattle.scope_marks.proofs.ScopesByNumber.{as_many_scopes, listed_at}

@@ -1,5 +1,5 @@
 -- Which bindings keep their names as functions or classes.
-use Rattle.std.specs.Prelude.{ℕ, Bool, false, ◌&&◌, List, Option}
+use Rattle.std.specs.Prelude.{ℕ, Bool, false, ◌&&◌, List}
 use Rattle.std.specs.BTreeMap.{BTreeMap}
 use Rattle.std.specs.Option.{unwrap_or}
 use Rattle.kept_names.specs.Keeping.{keeping}

@@ -1,4 +1,4 @@
-use Rattle.std.specs.Prelude.{Some, length}
+use Rattle.std.specs.Prelude.{Some}
 use Rattle.std.proofs.Common.{ap, subst, sym, ◌∙◌}
 use Rattle.kept_names.proofs.KeptBindings.{none_is_root, root_is}
 use Rattle.name_rules.specs.Kept.{is_root}

@@ -5,7 +5,7 @@ use Rattle.kept_names.specs.Views.{bound_of}
 use Rattle.name_rules.specs.Kept.{is_kept_alone}
 use Rattle.place_list.specs.TableViews.{places_in, withs_in}
 use Rattle.place_list.specs.Tables.{place_of, site_of}
-use Rattle.scope_rules.specs.Bindings.{is_binding, is_node, node}
+use Rattle.scope_rules.specs.Bindings.{is_node, node}
 use Rattle.kept_names.proofs.kept.kept_binding.Goals as goal
 
 pub returns-then-not-is_binding : goal.returns-then-not-is_binding

@@ -1,5 +1,4 @@
-use Rattle.std.specs.Prelude.{Bool, List}
-use Rattle.std.proofs.Common.{ap, refl, subst, sym, ◌∙◌}
+use Rattle.std.proofs.Common.{ap, refl, ◌∙◌}
 use Rattle.kept_names.proofs.NameCauses.{kept_by_settings}
 use Rattle.kept_names.specs.Keeping.{keeping}
 use Rattle.kept_names.specs.Views.{bounds_of}

@@ -1,4 +1,3 @@
-use Rattle.std.specs.Prelude.{Option, ℕ}
 use Rattle.std.proofs.Common.{ap, ◌∙◌}
 use Rattle.kept_names.proofs.NameCauses.{first_value_decides, no_declarator}
 use Rattle.kept_names.specs.Keeping.{keeping}

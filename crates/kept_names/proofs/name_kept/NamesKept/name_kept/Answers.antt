@@ -3,7 +3,7 @@ use Rattle.std.proofs.Common.{ap, ◌∙◌}
 use Rattle.kept_names.proofs.NameCauses.{assigned_is}
 use Rattle.kept_names.specs.Keeping.{keeping}
 use Rattle.kept_names.specs.Views.{bound_of}
-use Rattle.name_rules.specs.Kept.{is_assigned, is_declared_with, name_kept, role_kept}
+use Rattle.name_rules.specs.Kept.{is_declared_with, name_kept, role_kept}
 use Rattle.place_list.specs.Tables.{place_of, setting_of, site_of}
 use Rattle.scope_rules.specs.Bindings.{node}
 use Rattle.kept_names.proofs.name_kept.NamesKept.name_kept.Goals as goal
