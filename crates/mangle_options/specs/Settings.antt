@@ -1,5 +1,5 @@
 -- The options as the definitions of names see them: settings and a set of reserved names.
-use Rattle.std.specs.Prelude.{◌≡◌, ℕ, Bool, ◌||◌, List, map}
+use Rattle.std.specs.Prelude.{◌≡◌, Bool, ◌||◌, List, map}
 use Rattle.std.specs.Borrow.{Bor}
 use Rattle.std.specs.BTreeSet.{BTreeSet, contains_by}
 use Rattle.std.specs.Cmp.Lexicographic.{slice_cmp}

@@ -41,9 +41,9 @@ fn mark_eval<A: Allocator>(bits: &mut BitSet<A>, list: &PlaceList<'_>, place: &P
     }
 }
 
-// Whether the place is the callee of a direct eval.
+/// Whether the place is the callee of a direct eval.
 #[tactic(auto, unfolding(scope_rules::specs::Evals::is_eval, place_list::specs::Tables::place_of, place_list::specs::Tables::site_of, place_list::specs::Tables::setting_of))]
-fn is_eval(place: &PlaceEntry<'_>) -> bool
+pub fn is_eval(place: &PlaceEntry<'_>) -> bool
     ensures { (l : PlaceList) → result ≡ spec.is_eval (place_in l place.now) }
 {
     is_called(place.setting.role) && is_name_eval(place.name)

@@ -6,6 +6,6 @@ mod evals;
 mod marks;
 mod withs;
 
-pub use evals::scopes_with_evals;
+pub use evals::{is_eval, scopes_with_evals};
 pub use marks::{mark_each, mark_outwards};
 pub use withs::scopes_with_withs;

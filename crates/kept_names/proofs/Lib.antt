@@ -1,0 +1,11 @@
+-- loops over places: a set, a map of first values
+pub mod MarkedSets
+pub mod FirstValues
+-- places with their bindings
+pub mod BoundPlaces
+-- which bindings are kept
+pub mod NameCauses
+pub mod ScopesFlagged
+pub mod KeptBindings
+-- groups
+pub mod GroupsFound
