@@ -1,4 +1,4 @@
-use Rattle.std.specs.Prelude.{◌≡◌, ◌<◌, ℕ, length}
+use Rattle.std.specs.Prelude.{◌≡◌, ◌<◌, length}
 use Rattle.std.proofs.Common.{sym, ◌∙◌}
 use Rattle.name_rules.specs.PrivateNumbers.{number_in}
 use Rattle.scope_rules.specs.PrivateNames.{private_names}
