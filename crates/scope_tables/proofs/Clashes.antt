@@ -1,4 +1,4 @@
--- Names that are declared again, one place after another.
+-- Whether a place declares a name again, beside those so far.
 use Rattle.std.specs.Prelude.{◌≡◌, ◌⊎◌, ℕ, Bool, true, false, not, ◌&&◌, ◌||◌, List, [], ◌∷◌, ◌++◌, ◌+◌, ◌<◌, length, map, take, drop, get_or, bytes_eq}
 use Rattle.std.specs.List.{list_any}
 use Rattle.std.proofs.Common.{refl, sym, ap, ◌∙◌, inl, inr}
@@ -9,7 +9,7 @@ use Rattle.std.proofs.lemmas.Slice.Eq.{bytes_eq-Decides}
 use Rattle.tree_places.specs.Places.{Place}
 use Rattle.tree_places.specs.Scopes.{same_scope}
 use Rattle.scope_rules.specs.Bindings.{at_home, declares_at, same_name}
-use Rattle.scope_rules.specs.Faults.{has_redeclaration, is_single_at, redeclares}
+use Rattle.scope_rules.specs.Faults.{is_redeclaration, is_single_at, redeclares}
 use Rattle.scope_rules.specs.Homes.{declares_plainly, home, is_joinable, is_single}
 use Rattle.list_laws.proofs.AnyOf.{any_same, any_weaken}
 use Rattle.place_list.specs.TableViews.{place_in}
@@ -78,8 +78,9 @@ module _ (q : Place) where
   single_is_alone p = and_swap (declares_plainly p.site) (not (is_joinable p.site)) (at_home same_name q.name (home q.site) p)
 
   -- it clashes with one of them, if one declares its name and one does so alone, or it does itself
-  pub clashes : declares_plainly q.site ≡ true → (ps : List Place) → list_any (λ p. redeclares same_name p q) ps
+  pub clashes : declares_plainly q.site ≡ true → (ps : List Place) → is_redeclaration same_name ps q
       ≡ (list_any (declares_at same_name q.name (home q.site)) ps && (list_any (is_single_at same_name q.name (home q.site)) ps || not (is_joinable q.site)))
+  unfolding is_redeclaration
   clashes d ps =
       any_same _ _ ps (λ p i. one_clash d p)
       ∙ some_clash (declares_at same_name q.name (home q.site)) (λ p. is_joinable p.site) (is_joinable q.site) ps
@@ -89,35 +90,10 @@ module _ (q : Place) where
   unfolding redeclares declares_at
   none_clashes d p = and_left _ _ (and_right _ _ (and_left _ _ d))
 
-  pub clashes_not : declares_plainly q.site ≡ false → (ps : List Place) → list_any (λ p. redeclares same_name p q) ps ≡ false
+  pub clashes_not : declares_plainly q.site ≡ false → (ps : List Place) → is_redeclaration same_name ps q ≡ false
+  unfolding is_redeclaration
   clashes_not d [] = refl
   clashes_not d (p ∷ ps) = ap (λ (b : Bool). b || list_any (λ r. redeclares same_name r q) ps) (none_clashes d p) ∙ clashes_not d ps
-
-  -- ---- so it is with one place more
-
-  pub redeclared_more : (ps : List Place) → has_redeclaration same_name (ps ++ q ∷ []) ≡ (has_redeclaration same_name ps || list_any (λ p. redeclares same_name p q) ps)
-  unfolding has_redeclaration
-  redeclared_more [] = refl
-  redeclared_more (p ∷ ps) =
-      ap (λ (b : Bool). b || has_redeclaration same_name (ps ++ q ∷ [])) (list_any-append (redeclares same_name p) ps (q ∷ []))
-      ∙ ap (λ (b : Bool). (list_any (redeclares same_name p) ps || (redeclares same_name p q || false)) || b) (redeclared_more ps)
-      ∙ go (list_any (redeclares same_name p) ps) (redeclares same_name p q) (has_redeclaration same_name ps) (list_any (λ r. redeclares same_name r q) ps)
-    where
-      go : (a r h l : Bool) → ((a || (r || false)) || (h || l)) ≡ ((a || h) || (r || l))
-      go true r h l = refl
-      go false true true l = refl
-      go false true false l = refl
-      go false false h l = refl
-
-pub redeclared_stays : (ps qs : List Place) → has_redeclaration same_name ps ≡ true → has_redeclaration same_name (ps ++ qs) ≡ true
-unfolding has_redeclaration
-redeclared_stays [] qs h = absurd (both_ways _ refl h)
-redeclared_stays (p ∷ ps) qs h = go (or_cases _ _ h) (redeclared_stays ps qs)
-  where
-    go : (list_any (redeclares same_name p) ps ≡ true) ⊎ (has_redeclaration same_name ps ≡ true) → (has_redeclaration same_name ps ≡ true → has_redeclaration same_name (ps ++ qs) ≡ true)
-        → (list_any (redeclares same_name p) (ps ++ qs) || has_redeclaration same_name (ps ++ qs)) ≡ true
-    go (inl e) ih = or_left _ _ (list_any-append (redeclares same_name p) ps qs ∙ or_left _ _ e)
-    go (inr e) ih = or_right _ _ (ih e)
 
 -- ---- what the tests answer
 
@@ -129,21 +105,3 @@ by_the_third a b j p q = rw (p, q) refl
 
 pub by_the_first : (a b j : Bool) → a ≡ false → a ≡ (a && (b || not j))
 by_the_first a b j p = rw p refl
-
--- ---- along a list of places
-
-module _ (l : PlaceList) (all : List PlaceEntry) (i : ℕ) where
-  -- where the first i have no fault, those up to one more have one where that clashes
-  pub redeclared_by : (e : PlaceEntry) → i < length all → has_redeclaration same_name (places_of l (take i all)) ≡ false
-      → (b : Bool) → b ≡ list_any (λ p. redeclares same_name p (place_in l (get_or all i e))) (places_of l (take i all))
-      → has_redeclaration same_name (places_of l (take (i + 1) all)) ≡ b
-  redeclared_by e h faultless b clash =
-      ap (λ ps. has_redeclaration same_name ps) (ap (map (place_in l)) (take_more all i e h) ∙ map-append (place_in l) (take i all) (get_or all i e ∷ []))
-      ∙ redeclared_more (place_in l (get_or all i e)) (places_of l (take i all))
-      ∙ ap (λ (t : Bool). t || list_any (λ p. redeclares same_name p (place_in l (get_or all i e))) (places_of l (take i all))) faultless
-      ∙ sym clash
-
-  pub redeclared_whole : has_redeclaration same_name (places_of l (take (i + 1) all)) ≡ true → has_redeclaration same_name (places_of l all) ≡ true
-  redeclared_whole t =
-      ap (λ ps. has_redeclaration same_name ps) (ap (map (place_in l)) (sym (take-append-drop (i + 1) all)) ∙ map-append (place_in l) (take (i + 1) all) (drop (i + 1) all))
-      ∙ redeclared_stays (places_of l (take (i + 1) all)) (places_of l (drop (i + 1) all)) t

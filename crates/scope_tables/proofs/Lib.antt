@@ -5,7 +5,8 @@ pub mod FirstPlaces
 pub mod Binders
 pub mod BindingCases
 pub mod Clashes
-pub mod AnyPlace
 pub mod Reaching
 pub mod PrivatePlaces
+pub mod EachPlace
+pub mod NodeIndex
 pub mod Resolutions

@@ -2,9 +2,11 @@ pub mod Keys
 pub mod Views
 pub mod Firsts
 pub mod DeclarationsAt
+pub mod EarlierPlaces
 pub mod Nearest
 pub mod Reach
 pub mod Private
+pub mod FaultFinding
 pub mod FaultsOf
 pub mod Resolving
 pub mod WholeTree

@@ -20,6 +20,10 @@ site_in l e = tables.site_of (lists_in l) (entry_view e)
 abbrev pub places_of : PlaceList → List PlaceEntry → List Place
 places_of l es = map (place_in l) es
 
+-- the nodes of the entries
+abbrev pub nodes_of : List PlaceEntry → List ℕ
+nodes_of es = map (λ e. e.node) es
+
 unfoldable pub bound_of : PlaceList → BoundPlace → Bound Text
 bound_of l b = record { place = place_in l b.place; binding = b.binding }
 

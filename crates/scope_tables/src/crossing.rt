@@ -6,34 +6,17 @@ ghost use Rattle.place_list.specs.Bounds.{IsBounded};
 ghost use Rattle.place_list.specs.TableViews.{list_view, place_in, scope_at};
 ghost use Rattle.place_list.specs.declared.tables.PlaceEntry.{PlaceEntry};
 ghost use Rattle.scope_rules.specs.Bindings.{same_name};
-ghost use Rattle.scope_rules.specs.Faults.{crosses, has_crossing};
+ghost use Rattle.scope_rules.specs.Faults.{crosses};
 ghost use Rattle.scope_tables.specs.DeclarationsAt.{AreDeclarations, single_at};
 ghost use Rattle.scope_tables.specs.Nearest.{any_before};
-ghost use Rattle.scope_tables.specs.Views.{AllStand, IsScope, Stands, places_of};
+ghost use Rattle.scope_tables.specs.Views.{IsScope, Stands, places_of};
 
 use crate::declarations::Declarations;
 use crate::sites::{declares_var, home};
 use place_list::{PlaceEntry, PlaceList, same_number};
 
-/// Whether a `var` crosses, on its way to its home, a scope that declares its name otherwise.
-pub fn has_crossing(
-    list: &PlaceList<'_>,
-    declarations: &Declarations,
-    places: &[PlaceEntry<'_>],
-) -> bool
-    requires stand { AllStand list.now places.now }
-    requires declarations { AreDeclarations list.now places.now declarations.now }
-    ensures { result ≡ has_crossing same_name (places_of list.now places.now) }
-{
-    for place in places {
-        if crosses(list, declarations, place) {
-            return true;
-        }
-    }
-    false
-}
-
-/// Whether the place does so, among all those whose declarations these are.
+/// Whether the place is a `var` that crosses, on its way to its home, a scope that declares its name otherwise,
+/// among all those whose declarations these are.
 pub fn crosses(list: &PlaceList<'_>, declarations: &Declarations, place: &PlaceEntry<'_>) -> bool
     requires { Stands list.now place.now }
     ensures { (all : List PlaceEntry) → AreDeclarations list.now all declarations.now → Contains all place.now → result ≡ crosses same_name (places_of list.now all) (place_in list.now place.now) }

@@ -1,24 +1,9 @@
-//! Which faults the scopes have.
+//! Which faults there are.
 
-ghost use Rattle.std.specs.Prelude.{◌≡◌, ◌||◌, IfOk};
-ghost use Rattle.scope_tables.specs.DeclarationsAt.{AreDeclarations};
-ghost use Rattle.scope_tables.specs.FaultsOf.{AreFaults};
-ghost use Rattle.scope_tables.specs.Reach.{AllBoundStand};
-ghost use Rattle.scope_tables.specs.Views.{AllStand, bounds_of, places_of};
-ghost use Rattle.scope_rules.specs.Bindings.{bound, same_name};
+ghost use Rattle.std.specs.Prelude.{◌≡◌, ◌<◌, ◌||◌, Some, length, slice_get};
+ghost use Rattle.std.specs.List.{list_any};
 
-use crate::bound::BoundPlace;
-use crate::crossing::has_crossing;
-use crate::declarations::Declarations;
-use crate::private_names::private_declarations;
-use crate::reach::has_reach;
-use crate::redeclared::has_redeclaration;
-use crate::sloppy::has_sloppy_function;
-use crate::undeclared::has_undeclared;
-use place_list::{PlaceEntry, PlaceList};
-use std::alloc::{AllocError, Global};
-
-/// Which faults the scopes of a tree have.
+/// Which faults a place has, or the scopes of a tree.
 #[derive(Clone, Copy)]
 pub struct Faults {
     /// A name is declared again.
@@ -34,6 +19,31 @@ pub struct Faults {
 }
 
 impl Faults {
+    /// The i-th of these, from 0.
+    pub fn nth(faults: &[Faults], i: usize) -> Faults
+        requires { i < length faults.now }
+        ensures { slice_get faults.now i ≡ Some result }
+    {
+        faults[i]
+    }
+
+    /// Those that one of these has.
+    pub fn of_any(faults: &[Faults]) -> Faults
+        ensures redeclaration { result.redeclaration ≡ list_any (λ f. f.redeclaration) faults.now }
+        ensures crossing { result.crossing ≡ list_any (λ f. f.crossing) faults.now }
+        ensures sloppy_function { result.sloppy_function ≡ list_any (λ f. f.sloppy_function) faults.now }
+        ensures undeclared { result.undeclared ≡ list_any (λ f. f.undeclared) faults.now }
+        ensures reach { result.reach ≡ list_any (λ f. f.reach) faults.now }
+    {
+        Faults {
+            redeclaration: any_redeclaration(faults),
+            crossing: any_crossing(faults),
+            sloppy_function: any_sloppy_function(faults),
+            undeclared: any_undeclared(faults),
+            reach: any_reach(faults),
+        }
+    }
+
     /// Whether they have one of these.
     pub fn any(self) -> bool
         ensures { result ≡ (self.redeclaration || self.crossing || self.sloppy_function || self.undeclared || self.reach) }
@@ -42,31 +52,37 @@ impl Faults {
     }
 }
 
-/// The faults of these places, given what they declare and are bound to. Err is want of memory.
-pub fn find_faults(
-    alloc: Global,
-    list: &PlaceList<'_>,
-    declarations: &Declarations,
-    bound_places: &[BoundPlace<'_>],
-    places: &[PlaceEntry<'_>],
-) -> Result<Faults, AllocError>
-    requires stand { AllStand list.now places.now }
-    requires bound_stand { AllBoundStand list.now bound_places.now }
-    requires declarations { AreDeclarations list.now places.now declarations.now }
-    requires bound { bounds_of list.now bound_places.now ≡ bound same_name (places_of list.now places.now) }
-    ensures { IfOk result (λ f. AreFaults (places_of list.now places.now) f) }
+// Whether one of these is a redeclaration.
+fn any_redeclaration(faults: &[Faults]) -> bool
+    ensures { result ≡ list_any (λ f. f.redeclaration) faults.now }
 {
-    let redeclaration = has_redeclaration(alloc, list, places)?;
-    let crossing = has_crossing(list, declarations, places);
-    let sloppy_function = has_sloppy_function(list, places);
-    let private = private_declarations(alloc, list, places)?;
-    let undeclared = has_undeclared(list, &private, places);
-    let reach = has_reach(alloc, list, bound_places)?;
-    Ok(Faults {
-        redeclaration,
-        crossing,
-        sloppy_function,
-        undeclared,
-        reach,
-    })
+    faults.iter().any(|f| f.redeclaration)
+}
+
+// Whether one of these crosses.
+fn any_crossing(faults: &[Faults]) -> bool
+    ensures { result ≡ list_any (λ f. f.crossing) faults.now }
+{
+    faults.iter().any(|f| f.crossing)
+}
+
+// Whether one of these is a sloppy function.
+fn any_sloppy_function(faults: &[Faults]) -> bool
+    ensures { result ≡ list_any (λ f. f.sloppy_function) faults.now }
+{
+    faults.iter().any(|f| f.sloppy_function)
+}
+
+// Whether one of these is undeclared.
+fn any_undeclared(faults: &[Faults]) -> bool
+    ensures { result ≡ list_any (λ f. f.undeclared) faults.now }
+{
+    faults.iter().any(|f| f.undeclared)
+}
+
+// Whether one of these reaches a body.
+fn any_reach(faults: &[Faults]) -> bool
+    ensures { result ≡ list_any (λ f. f.reach) faults.now }
+{
+    faults.iter().any(|f| f.reach)
 }

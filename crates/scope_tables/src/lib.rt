@@ -7,6 +7,8 @@ mod declarations;
 mod faults;
 mod firsts;
 mod key;
+mod node_index;
+mod place_faults;
 mod private_names;
 mod reach;
 mod reach_sets;

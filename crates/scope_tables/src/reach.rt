@@ -1,40 +1,19 @@
 //! Whether a parameter or catch pattern reaches a declaration of the body.
 
-ghost use Rattle.std.specs.Prelude.{◌≡◌, ◌<◌, List, IfOk, length};
-ghost use Rattle.std.specs.List.{Contains, list_any};
+ghost use Rattle.std.specs.Prelude.{◌≡◌, ◌<◌, List, length};
+ghost use Rattle.std.specs.List.{list_any};
 ghost use Rattle.place_list.specs.Bounds.{IsBelow, IsBounded};
 ghost use Rattle.place_list.specs.TableViews.{heads_at, list_view};
-ghost use Rattle.scope_rules.specs.Faults.{has_reach, reaches_body};
-ghost use Rattle.scope_tables.specs.Reach.{AllBoundStand, HasBodies, HasHeads, is_open_body};
+ghost use Rattle.scope_rules.specs.Faults.{reaches_body};
+ghost use Rattle.scope_tables.specs.Reach.{HasBodies, HasHeads, is_open_body};
 ghost use Rattle.scope_tables.specs.Views.{Stands, bound_of, bounds_of};
 ghost use Rattle.scope_tables.specs.declared.bound.BoundPlace.{BoundPlace};
 
 use crate::bound::BoundPlace;
 use crate::key::NodeInScope;
-use crate::reach_sets::{bodies_of, heads_of};
 use crate::sites::refers;
 use place_list::PlaceList;
-use std::alloc::{AllocError, Global};
 use std::collections::BTreeSet;
-
-/// Whether one does. Err is want of memory.
-pub fn has_reach(
-    alloc: Global,
-    list: &PlaceList<'_>,
-    places: &[BoundPlace<'_>],
-) -> Result<bool, AllocError>
-    requires { AllBoundStand list.now places.now }
-    ensures { IfOk result (λ b. b ≡ has_reach (bounds_of list.now places.now)) }
-{
-    let bodies = bodies_of(alloc, list, places)?;
-    let heads = heads_of(alloc, list, places)?;
-    for place in places {
-        if reaches_body(list, &bodies, &heads, place) {
-            return Ok(true);
-        }
-    }
-    Ok(false)
-}
 
 /// Whether the place does, among all those of these sets.
 pub fn reaches_body(

@@ -7,7 +7,8 @@ ghost use Rattle.scope_tables.specs.Views.{AllStand, places_of};
 
 use crate::bound::BoundPlace;
 use crate::declarations::Declarations;
-use crate::faults::{Faults, find_faults};
+use crate::faults::Faults;
+use crate::place_faults::place_faults;
 use crate::resolve::bound_places;
 use place_list::{PlaceEntry, PlaceList};
 use std::alloc::{AllocError, Global};
@@ -18,6 +19,8 @@ pub struct Resolved {
     pub declarations: Declarations,
     /// Of each place its binding, by the number of its node.
     pub bindings: Vec<Option<u32>>,
+    /// Of each place its faults, and which of them some place has.
+    pub place_faults: Vec<Faults>,
     pub faults: Faults,
 }
 
@@ -32,11 +35,13 @@ pub fn resolve<'t>(
 {
     let declarations = Declarations::new(alloc, list, places)?;
     let bound = bound_places(alloc, list, &declarations, places)?;
-    let faults = find_faults(alloc, list, &declarations, bound.as_slice(), places)?;
+    let place_faults = place_faults(alloc, list, &declarations, bound.as_slice(), places)?;
+    let faults = Faults::of_any(place_faults.as_slice());
     let bindings = bindings_of(alloc, bound.as_slice())?;
     Ok(Resolved {
         declarations,
         bindings,
+        place_faults,
         faults,
     })
 }

@@ -1,25 +1,12 @@
 //! Whether a plain function is declared in a block of sloppy code.
 
 ghost use Rattle.std.specs.Prelude.{◌≡◌};
-ghost use Rattle.scope_rules.specs.Faults.{has_sloppy_function, is_sloppy_function};
-ghost use Rattle.scope_tables.specs.Views.{AllStand, Stands, places_of, site_in};
+ghost use Rattle.scope_rules.specs.Faults.{is_sloppy_function};
+ghost use Rattle.scope_tables.specs.Views.{Stands, site_in};
 
 use crate::roles::is_plain_function;
 use crate::sites::{declares, lies_in_var_scope};
 use place_list::{PlaceEntry, PlaceList};
-
-/// Whether one is.
-pub fn has_sloppy_function(list: &PlaceList<'_>, places: &[PlaceEntry<'_>]) -> bool
-    requires { AllStand list.now places.now }
-    ensures { result ≡ has_sloppy_function (places_of list.now places.now) }
-{
-    for place in places {
-        if is_sloppy_function(list, place) {
-            return true;
-        }
-    }
-    false
-}
 
 /// Whether the place declares one there.
 #[tactic(auto, unfolding(scope_rules::specs::Faults::is_sloppy_function, place_list::specs::Tables::site_of, place_list::specs::Tables::setting_of))]

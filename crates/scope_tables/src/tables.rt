@@ -1,16 +1,18 @@
 //! The bindings and the faults of a whole tree.
 
-ghost use Rattle.std.specs.Prelude.{◌≡◌, ◌<◌, IfOk, IfSome, length, slice_get};
+ghost use Rattle.std.specs.Prelude.{◌≡◌, ◌<◌, IfOk, IfSome, Some, is_some, length, map, slice_get, take};
 ghost use Rattle.place_list.specs.TableViews.{places_in, scopes_in};
 ghost use Rattle.scope_rules.specs.Bindings as rules;
 ghost use Rattle.scope_rules.specs.Bindings.{same_name};
+ghost use Rattle.scope_rules.specs.Evals.{contains};
 ghost use Rattle.scope_rules.specs.Faults as faulty;
-ghost use Rattle.scope_tables.specs.FaultsOf.{AreFaults};
+ghost use Rattle.scope_tables.specs.FaultsOf.{AreFaults, faults_of};
 ghost use Rattle.scope_tables.specs.WholeTree.{AreTables};
 ghost use Rattle.tree_nodes.specs.Tree.{alone};
 ghost use Rattle.tree_places.specs.Places as spec;
 
 use crate::faults::Faults;
+use crate::node_index::index_of_node;
 use crate::resolve::shadower;
 use crate::resolved::{Resolved, resolve};
 use place_list::{PlaceList, list_places};
@@ -46,6 +48,16 @@ impl<'t> ScopeTables<'t> {
         self.resolved.bindings.as_slice()
     }
 
+    /// The index of the place that has this node, from 0; None where none has it. A binding has the number of such
+    /// a node.
+    pub fn index_of_node(&self, node: u32) -> Option<usize>
+        requires { AreTables self.now }
+        ensures found { IfSome result (λ i. slice_get (map rules.node (places_in self.now.list)) i ≡ Some node) }
+        ensures exactly { is_some result ≡ contains (map rules.node (places_in self.now.list)) node }
+    {
+        index_of_node(self.list.places.as_slice(), node)
+    }
+
     /// The shadower of the i-th place, from 0: of a function-name the binding of what its home declares
     /// under its name otherwise.
     pub fn shadower(&self, i: usize) -> Option<u32>
@@ -64,6 +76,16 @@ impl<'t> ScopeTables<'t> {
         ensures { AreFaults (places_in self.now.list) result }
     {
         self.resolved.faults
+    }
+
+    /// Which faults the i-th place has, from 0: it is the later of two declarations that declares a name again.
+    pub fn faults_at(&self, i: usize) -> Faults
+        requires tables { AreTables self.now }
+        requires index { i < length self.now.list.places.items }
+        ensures { IfSome (slice_get (places_in self.now.list) i) (λ p. result
+            ≡ faults_of (places_in self.now.list) (take i (places_in self.now.list)) p) }
+    {
+        Faults::nth(self.resolved.place_faults.as_slice(), i)
     }
 
     /// Whether they have a fault.

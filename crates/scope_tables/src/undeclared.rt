@@ -5,32 +5,14 @@ ghost use Rattle.std.specs.List.{Contains};
 ghost use Rattle.place_list.specs.TableViews.{place_in};
 ghost use Rattle.place_list.specs.declared.tables.PlaceEntry.{PlaceEntry};
 ghost use Rattle.scope_rules.specs.Bindings.{same_name};
-ghost use Rattle.scope_rules.specs.Faults.{has_undeclared, is_undeclared};
+ghost use Rattle.scope_rules.specs.Faults.{is_undeclared};
 ghost use Rattle.scope_tables.specs.Private.{HoldsPrivate};
-ghost use Rattle.scope_tables.specs.Views.{AllStand, Stands, places_of};
+ghost use Rattle.scope_tables.specs.Views.{Stands, places_of};
 
 use crate::key::Key;
 use crate::private_names::private_binding;
 use place_list::{PlaceEntry, PlaceList};
 use std::collections::BTreeMap;
-
-/// Whether one is.
-pub fn has_undeclared(
-    list: &PlaceList<'_>,
-    declarations: &BTreeMap<Key, u32>,
-    places: &[PlaceEntry<'_>],
-) -> bool
-    requires stand { AllStand list.now places.now }
-    requires private { HoldsPrivate list.now places.now places.now declarations.now }
-    ensures { result ≡ has_undeclared same_name (places_of list.now places.now) }
-{
-    for place in places {
-        if is_undeclared(list, declarations, place) {
-            return true;
-        }
-    }
-    false
-}
 
 /// Whether the place uses one.
 pub fn is_undeclared(

@@ -17,7 +17,7 @@ use Rattle.scope_tables.specs.declared.sites.Declaring.TheVariants.{Plainly, Sin
 use Rattle.scope_tables.proofs.Numbers.{home_at, home_is_known}
 use Rattle.scope_tables.proofs.Binders.{first_is_declared, first_is_single}
 use Rattle.scope_tables.proofs.Clashes.{by_the_first, by_the_second, by_the_third, clashes, clashes_not}
-use Rattle.scope_tables.proofs.redeclared.redeclares.Goals as goal
+use Rattle.scope_tables.proofs.redeclared.Earlier.is_redeclaration.Goals as goal
 
 module _ (l : PlaceList) (all some : List PlaceEntry) (q : PlaceEntry) (stands : Stands l q) (among : Contains all q) (h n : ℕ) (at_home : h ≡ number_from (home_number q)) (number : n ≡ q.name_number) (m : ℕ → ℕ → Option ℕ) (b : Bool) (asks : b ≡ is_some (m h n)) where
   -- whether a map has something at the place's home and number is whether one of these declares its name there
@@ -38,39 +38,39 @@ module _ (l : PlaceList) (all some : List PlaceEntry) (q : PlaceEntry) (stands :
 
 pub returns-then-not-declares_plainly : goal.returns-then-not-declares_plainly
 unfolding place_of
-returns-then-not-declares_plainly c = λ all some j holds singles.
+returns-then-not-declares_plainly c = λ all some j e.
     let ss = c.args.list.now in
     sym (clashes_not (place_in ss c.args.place.now) (sym (c.declares_plainly.ensures ss) ∙ c.if-not-declares_plainly.true) (places_of ss some))
 
 pub returns-then-contains_key-2 : goal.returns-then-contains_key-2
 unfolding place_of
-returns-then-contains_key-2 c = λ all some j holds singles.
+returns-then-contains_key-2 c = λ all some j e.
     let ss = c.args.list.now in
     let q = c.args.place.now in
     let k = c.key_of-key in
-    let is_there = asked_plain ss all some q c.requires j k.result.within k.result.name k.ensures.within k.ensures.name (at_key c.args.plain.now) c.contains_key.result c.contains_key.ensures holds in
-    let is_single = asked_single ss all some q c.requires j k.result.within k.result.name k.ensures.within k.ensures.name (at_key c.args.singles.now) c.contains_key-then-contains_key.result c.contains_key-then-contains_key.ensures singles in
+    let is_there = asked_plain ss all some q c.requires j k.result.within k.result.name k.ensures.within k.ensures.name (at_key c.args.self.now.plain) c.contains_key.result c.contains_key.ensures e.plain in
+    let is_single = asked_single ss all some q c.requires j k.result.within k.result.name k.ensures.within k.ensures.name (at_key c.args.self.now.singles) c.contains_key-then-contains_key.result c.contains_key-then-contains_key.ensures e.singles in
     is_single ∙ by_the_second _ _ (is_joinable (site_in ss q)) (sym is_there ∙ c.if-contains_key.true) (sym is_single ∙ c.if-contains_key-2.true)
     ∙ sym (clashes (place_in ss q) (sym (c.declares_plainly.ensures ss) ∙ c.if-not-declares_plainly.false) (places_of ss some))
 
 pub returns-else-contains_key-2 : goal.returns-else-contains_key-2
 unfolding place_of
-returns-else-contains_key-2 c = λ all some j holds singles.
+returns-else-contains_key-2 c = λ all some j e.
     let ss = c.args.list.now in
     let q = c.args.place.now in
     let k = c.key_of-key in
-    let is_there = asked_plain ss all some q c.requires j k.result.within k.result.name k.ensures.within k.ensures.name (at_key c.args.plain.now) c.contains_key.result c.contains_key.ensures holds in
-    let is_single = asked_single ss all some q c.requires j k.result.within k.result.name k.ensures.within k.ensures.name (at_key c.args.singles.now) c.contains_key-then-contains_key.result c.contains_key-then-contains_key.ensures singles in
+    let is_there = asked_plain ss all some q c.requires j k.result.within k.result.name k.ensures.within k.ensures.name (at_key c.args.self.now.plain) c.contains_key.result c.contains_key.ensures e.plain in
+    let is_single = asked_single ss all some q c.requires j k.result.within k.result.name k.ensures.within k.ensures.name (at_key c.args.self.now.singles) c.contains_key-then-contains_key.result c.contains_key-then-contains_key.ensures e.singles in
     ap not c.is_joinable.ensures
     ∙ by_the_third _ _ (is_joinable (site_in ss q)) (sym is_there ∙ c.if-contains_key.true) (sym is_single ∙ c.if-contains_key-2.false)
     ∙ sym (clashes (place_in ss q) (sym (c.declares_plainly.ensures ss) ∙ c.if-not-declares_plainly.false) (places_of ss some))
 
 pub returns-else-contains_key : goal.returns-else-contains_key
 unfolding place_of
-returns-else-contains_key c = λ all some j holds singles.
+returns-else-contains_key c = λ all some j e.
     let ss = c.args.list.now in
     let q = c.args.place.now in
     let k = c.key_of-key in
-    let is_there = asked_plain ss all some q c.requires j k.result.within k.result.name k.ensures.within k.ensures.name (at_key c.args.plain.now) c.contains_key.result c.contains_key.ensures holds in
+    let is_there = asked_plain ss all some q c.requires j k.result.within k.result.name k.ensures.within k.ensures.name (at_key c.args.self.now.plain) c.contains_key.result c.contains_key.ensures e.plain in
     is_there ∙ by_the_first _ (list_any (is_single_at same_name q.name.now (home (site_in ss q))) (places_of ss some)) (is_joinable (site_in ss q)) (sym is_there ∙ c.if-contains_key.false)
     ∙ sym (clashes (place_in ss q) (sym (c.declares_plainly.ensures ss) ∙ c.if-not-declares_plainly.false) (places_of ss some))
