@@ -22,9 +22,7 @@ fn child(alloc: Global, node: Node) -> Result<Field, AllocError> {
 }
 
 fn list(alloc: Global, node: Node) -> Result<Field, AllocError> {
-    Ok(Field::List(NodeList::from_vec(
-        vec![in alloc; Some(node)]?,
-    )))
+    Ok(Field::List(NodeList::from_vec(vec![in alloc; Some(node)]?)))
 }
 
 fn name(alloc: Global) -> Result<Node, AllocError> {

@@ -4,7 +4,6 @@ pub mod Input
 pub mod Mangling
 pub mod MemorySink
 pub mod MemorySource
-pub mod Output
 pub mod ReaderSource
 pub mod Run
 pub mod Sink

@@ -1,3 +1,2 @@
 mod NamedOnce
--- the laws
-pub mod Programs
+mod Programs

@@ -8,4 +8,3 @@ pub mod ReadError
 pub mod Laws
 pub mod NodeCount
 pub mod Program
-pub mod Widest
