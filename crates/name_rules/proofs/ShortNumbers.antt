@@ -1,11 +1,10 @@
 -- A name tells its number: the first character in base 54, the others in base 64 without a zero digit.
-use Rattle.std.specs.Prelude.{◌≡◌, ◌⊎◌, ℕ, zero, suc, ◌+◌, ◌*◌, ◌/◌, ◌%◌, ◌<◌, ◌≤◌, true, cond, nat_eq, [], ◌∷◌, length, get_or}
+use Rattle.std.specs.Prelude.{◌≡◌, ◌⊎◌, ℕ, zero, suc, ◌+◌, ◌*◌, ◌/◌, ◌%◌, ◌<◌, ◌≤◌, true, nat_eq, length, get_or}
 use Rattle.std.proofs.Common.{refl, sym, ap, ◌∙◌, arith, inl, inr}
 use Rattle.std.proofs.lemmas.Bool.{agree_below_at, cases_lt, eqb-true}
 use Rattle.name_rules.specs.NameOrder.{LengthsNeverFall, ShorterNamesComeFirst, ShortIsOneToOne, digit, number_after, number_of_name, place_in}
 use Rattle.name_rules.specs.Open.{all_open}
 use Rattle.name_rules.specs.ShortNames.{characters, more_characters, short}
-use Rattle.tree_nodes.specs.Tree.{Text}
 
 character_told : (k : ℕ) → k < 64 → digit (get_or characters k 0) ≡ k
 unfolding digit
