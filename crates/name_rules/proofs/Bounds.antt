@@ -28,13 +28,13 @@ use Rattle.scope_rules.specs.Homes.{home}
 use Rattle.scope_rules.specs.PrivateNames.{distinct}
 use Rattle.name_rules.proofs.CountFrom.{count_length}
 use Rattle.name_rules.proofs.FirstUntaken.{candidate_one, free_different, free_names_length, passed, passed_different, passed_taken}
-use Rattle.name_rules.proofs.GivenNamesFit.{slot_names_in}
+use Rattle.name_rules.proofs.GivenNamesFit.{given_name_in, given_names_fit, slot_names_in}
 use Rattle.name_rules.proofs.Greatest.{greatest_at_most}
 use Rattle.name_rules.proofs.GroupsInOrder.{slots_are_fewest}
-use Rattle.name_rules.proofs.Mangling.{from_leading}
+use Rattle.name_rules.proofs.Mangling.{changed_all, from_leading, slot_name_of}
 use Rattle.name_rules.proofs.Rivals.{Led, groups_differ, led}
-use Rattle.name_rules.proofs.SlotNamesKeepApart.{members_at}
-use Rattle.name_rules.specs.Bounds.{BoundIsSmall, NamesAreBounded, forbidden}
+use Rattle.name_rules.proofs.SlotNamesKeepApart.{Placed, members_at}
+use Rattle.name_rules.specs.Bounds.{BoundIsSmall, ChangedNamesAreBounded, NamesAreBounded, candidate_limit, forbidden}
 use Rattle.name_rules.specs.FreeNames.{first_untaken, is_taken, is_unchanged, is_variable}
 use Rattle.name_rules.specs.GivenNames.{count_from, free_names, names_of_slots, slot_names}
 use Rattle.name_rules.specs.Groups.{Group, Member, greatest_width, group_led_by, groups_of, is_live, leads, members, width}
@@ -42,6 +42,7 @@ use Rattle.name_rules.specs.Kept.{is_reserved, name_arguments}
 use Rattle.name_rules.specs.Open.{all_open}
 use Rattle.name_rules.specs.Options.{Options}
 use Rattle.name_rules.specs.ShortNames.{candidate}
+use Rattle.name_rules.specs.Shortest.{changed_names}
 use Rattle.name_rules.specs.Slots.{number_of_slots, slots_of, weight}
 
 -- ---- what is taken is forbidden
@@ -126,19 +127,33 @@ name_free o t x i =
 number_is_within : (r n v l : ℕ) → r < 0 + n + v → v ≤ l → r < n + l
 number_is_within r n v l h k = omega (arith, h, k)
 
-pub names_are_bounded : NamesAreBounded
+abbrev IsBounded : Options → Parts → Text → Type 0
+IsBounded o t x = (n : ℕ) × (x ≡ candidate o.readable n) × (n < candidate_limit o t)
+
+free_bounded : (o : Options) (t : Parts) (x : Text) → In x (free_names o (members o t) (number_of_slots (slots_of o t))) → IsBounded o t x
 unfolding all_open
-names_are_bounded o t x c =
+free_bounded o t x i =
     let ms : List Member = members o t in
     let n : ℕ = number_of_slots (slots_of o t) in
     let fuel : ℕ = n + 48 + length o.reserved + length ms in
     let over : List Text = passed (candidate o.readable) (candidate_one o.readable) (is_taken o ms) fuel n 0 in
     let r : Numbered_below (candidate o.readable) (candidate_one o.readable) (is_taken o ms) x 0 (0 + n + length over) =
-    found_below (candidate o.readable) (candidate_one o.readable) (is_taken o ms) fuel n 0 x (name_free o t x (in_from_Contains (names_of_slots o t) x c)) in
+    found_below (candidate o.readable) (candidate_one o.readable) (is_taken o ms) fuel n 0 x i in
     let few : length over ≤ length (distinct (forbidden o ms)) = no_more same_name same_name_tells over (distinct (forbidden o ms)) (passed_different (candidate o.readable) (candidate_one o.readable) (is_taken o ms) fuel n 0)
     (λ y i. in_distinct (forbidden o ms) y (taken_forbidden o ms y (of_each (λ z. is_taken o ms z ≡ true) over y (passed_taken (candidate o.readable) (candidate_one o.readable) (is_taken o ms) fuel n 0) i))) in
     let b : r.number < 0 + n + length over = r.below in
     (r.number, r.is, number_is_within r.number n (length over) (length (distinct (forbidden o ms))) b few)
+
+pub names_are_bounded : NamesAreBounded
+names_are_bounded o t x c = free_bounded o t x (name_free o t x (in_from_Contains (names_of_slots o t) x c))
+
+pub changed_names_are_bounded : ChangedNamesAreBounded
+changed_names_are_bounded o t u has x c =
+    of_each (IsBounded o t) (changed_names o t u) x
+    (changed_all o t u has (IsBounded o t) (λ p g i e.
+    let d : Placed o t (λ k. get_or (names_of_slots o t) k []) has.rooted (given_names_fit o t) p g = slot_name_of o t u has p g i e in
+    free_bounded o t (get_or (names_of_slots o t) d.slotted.slot []) (given_name_in o t d.slotted.slot d.below)))
+    (in_from_Contains (changed_names o t u) x c)
 
 -- ---- how many
 

@@ -289,7 +289,7 @@ digits_told (suc fuel) n after h = go (nat_lt n 10) refl (λ a w. digits_told fu
     go true e ih = and_from _ _ (digit_told n (below e)) h
     go false e ih = ih ((48 + n % 10) ∷ after) (and_from _ _ (digit_told (n % 10) (let q : n % 10 < 10 = omega arith in q)) h)
 
-spelled_told : (readable : Bool) (n : ℕ) → is_spelled (candidate readable n) ≡ true
+pub spelled_told : (readable : Bool) (n : ℕ) → is_spelled (candidate readable n) ≡ true
 unfolding all_open starts_name
 spelled_told true n = digits_told (suc n) n [] refl
 spelled_told false n = and_from _ _ (start_told (n % 54) (let h : n % 54 < 54 = omega arith in h)) (parts_told n (n / 54))

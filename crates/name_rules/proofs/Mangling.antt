@@ -292,7 +292,7 @@ module _ (o : Options) (t u : Parts) (has : HasNewNames o t u) where
   some_of (Some n) h = (n, refl)
 
   -- all places that change, by their new names
-  changed_all : (P : Text → Type 0) → ((p : Place) (g : ℕ) (i : In p (places t)) (e : group_in o t p ≡ Some g) → P (name (slot_name_of p g i e).slotted.slot)) → AllOf P (names_where changes (members o t) (places u))
+  pub changed_all : (P : Text → Type 0) → ((p : Place) (g : ℕ) (i : In p (places t)) (e : group_in o t p ≡ Some g) → P (name (slot_name_of p g i e).slotted.slot)) → AllOf P (names_where changes (members o t) (places u))
   unfolding all_open member_at
   changed_all P f = subst (λ (us : List Place). AllOf P (names_where changes (members o t) us)) (sym places_new)
       (subst (λ (ms : List Member). AllOf P (names_where changes ms (map (under new) (places t)))) (sym (members_at o t))
@@ -382,7 +382,7 @@ module _ (o : Options) (t u : Parts) (has : HasNewNames o t u) where
       some_one' : {m n : ℕ} → Some m ≡ Some n → m ≡ n
       some_one' {m} q = ap (λ x. elim x as (λ y. ℕ) [ None ↦ m | Some y ↦ y ]) q
 
-  fewest_names : length (distinct (names_where changes (members o t) (places u))) ≡ greatest_width o t
+  pub fewest_names : length (distinct (names_where changes (members o t) (places u))) ≡ greatest_width o t
   unfolding all_open names_by_slots
   fewest_names =
       let xs : List Text = names_where changes (members o t) (places u) in

@@ -1,53 +1,34 @@
 -- A name tells its number: the first character in base 54, the others in base 64 without a zero digit.
-use Rattle.std.specs.Prelude.{◌≡◌, ℕ, zero, suc, ◌+◌, ◌*◌, ◌/◌, ◌%◌, ◌<◌, ◌≤◌, true, cond, nat_eq, [], ◌∷◌, length, get_or}
-use Rattle.std.proofs.Common.{refl, sym, ap, ◌∙◌, arith}
-use Rattle.std.proofs.lemmas.Bool.{agree_below_at, eqb-true}
-use Rattle.name_rules.specs.NameOrder.{LengthsNeverFall, ShortIsOneToOne}
+use Rattle.std.specs.Prelude.{◌≡◌, ◌⊎◌, ℕ, zero, suc, ◌+◌, ◌*◌, ◌/◌, ◌%◌, ◌<◌, ◌≤◌, true, nat_eq, length, get_or}
+use Rattle.std.proofs.Common.{refl, sym, ap, ◌∙◌, arith, inl, inr}
+use Rattle.std.proofs.lemmas.Bool.{agree_below_at, cases_lt, eqb-true}
+use Rattle.name_rules.specs.NameOrder.{LengthsNeverFall, ShorterNamesComeFirst, ShortIsOneToOne, digit, number_after, number_of_name, place_in}
 use Rattle.name_rules.specs.Open.{all_open}
 use Rattle.name_rules.specs.ShortNames.{characters, more_characters, short}
-use Rattle.tree_nodes.specs.Tree.{Text}
 
--- where a character stands in a list
-abbrev place_in : Text → ℕ → ℕ
-place_in [] c = 0
-place_in (d ∷ ds) c = cond (nat_eq c d) 0 (suc (place_in ds c))
+character_told : (k : ℕ) → k < 64 → digit (get_or characters k 0) ≡ k
+unfolding digit
+character_told k h = eqb-true (digit (get_or characters k 0)) k (agree_below_at (λ n. nat_eq (place_in characters (get_or characters n 0)) n) (λ n. true) 64 k refl h)
 
-place : ℕ → ℕ
-place c = place_in characters c
-
-character_told : (k : ℕ) → k < 64 → place (get_or characters k 0) ≡ k
-unfolding place
-character_told k h = eqb-true (place (get_or characters k 0)) k (agree_below_at (λ n. nat_eq (place_in characters (get_or characters n 0)) n) (λ n. true) 64 k refl h)
-
--- the number that is left after the first character
-abbrev left_of : Text → ℕ
-left_of [] = 0
-left_of (c ∷ cs) = 1 + place c + 64 * left_of cs
-
-left_told : (fuel m : ℕ) → m ≤ fuel → left_of (more_characters fuel m) ≡ m
+left_told : (fuel m : ℕ) → m ≤ fuel → number_after (more_characters fuel m) ≡ m
 unfolding all_open
 left_told zero m h = omega (arith, h)
 left_told (suc fuel) zero h = refl
 left_told (suc fuel) (suc m) h =
     let d : m % 64 < 64 = omega arith in
-    let c : place (get_or characters (m % 64) 0) ≡ m % 64 = character_told (m % 64) d in
+    let c : digit (get_or characters (m % 64) 0) ≡ m % 64 = character_told (m % 64) d in
     let q : m / 64 ≤ m = omega arith in
-    let r : left_of (more_characters fuel (m / 64)) ≡ m / 64 = left_told fuel (m / 64) (omega (arith, h, q)) in
+    let r : number_after (more_characters fuel (m / 64)) ≡ m / 64 = left_told fuel (m / 64) (omega (arith, h, q)) in
     let e : m % 64 + 64 * (m / 64) ≡ m = omega arith in
     omega (arith, c, r, e)
 
--- the number of a name
-abbrev number_of_name : Text → ℕ
-number_of_name [] = 0
-number_of_name (c ∷ cs) = place c + 54 * left_of cs
-
-number_told : (n : ℕ) → number_of_name (short n) ≡ n
+pub number_told : (n : ℕ) → number_of_name (short n) ≡ n
 unfolding all_open
 number_told n =
     let d : n % 54 < 64 = omega arith in
-    let c : place (get_or characters (n % 54) 0) ≡ n % 54 = character_told (n % 54) d in
+    let c : digit (get_or characters (n % 54) 0) ≡ n % 54 = character_told (n % 54) d in
     let q : n / 54 ≤ n = omega arith in
-    let r : left_of (more_characters n (n / 54)) ≡ n / 54 = left_told n (n / 54) q in
+    let r : number_after (more_characters n (n / 54)) ≡ n / 54 = left_told n (n / 54) q in
     let e : n % 54 + 54 * (n / 54) ≡ n = omega arith in
     omega (arith, c, r, e)
 
@@ -73,3 +54,10 @@ lengths_never_fall m n h =
     let q : n / 54 ≤ n = omega arith in
     let r : length (more_characters m (m / 54)) ≤ length (more_characters n (n / 54)) = longer m n (m / 54) (n / 54) d q in
     omega (arith, r)
+
+pub shorter_names_come_first : ShorterNamesComeFirst
+shorter_names_come_first m n h = go (cases_lt m n)
+  where
+    go : (m < n) ⊎ (n ≤ m) → m < n
+    go (inl l) = l
+    go (inr l) = let r : length (short n) ≤ length (short m) = lengths_never_fall n m l in absurd (omega (arith, r, h))

@@ -1,14 +1,17 @@
 -- Each text of the characters of names is the short name of some number.
 use Rattle.std.specs.List.{list_all, list_any}
-use Rattle.std.specs.Prelude.{◌≡◌, ◌≤◌, ◌<◌, ℕ, zero, suc, ◌+◌, ◌*◌, ◌/◌, ◌%◌, true, nat_eq, [], ◌∷◌, length, get_or, take}
+use Rattle.std.specs.Prelude.{◌≡◌, ◌≤◌, ◌<◌, ℕ, zero, suc, ◌+◌, ◌*◌, ◌/◌, ◌%◌, true, false, nat_eq, [], ◌∷◌, length, get_or, take}
 use Rattle.std.proofs.Common.{refl, sym, ap, ◌∙◌, arith}
 use Rattle.std.proofs.lemmas.Bool.{and_parts, both_ways, eqb-true}
 use Rattle.list_laws.proofs.AnyOf.{any_some}
 use Rattle.list_laws.proofs.Members.{In, found_at}
 use Rattle.tree_nodes.specs.Tree.{Text}
+use Rattle.name_rules.proofs.FirstUntaken.{spelled_told}
+use Rattle.name_rules.proofs.ShortNumbers.{number_told}
 use Rattle.name_rules.specs.FreeNames.{is_spelled}
+use Rattle.name_rules.specs.NameOrder.{ShortIsItsNumber, ShortIsOnto, number_of_name}
 use Rattle.name_rules.specs.Open.{all_open}
-use Rattle.name_rules.specs.ShortNames.{characters, more_characters, short}
+use Rattle.name_rules.specs.ShortNames.{candidate, characters, more_characters, short}
 
 -- where a listed character stands
 standing : (xs : Text) (c : ℕ) → list_any (nat_eq c) xs ≡ true → (p : ℕ) × (p < length xs) × (get_or xs p 0 ≡ c)
@@ -70,3 +73,12 @@ spelled_short (c ∷ cs) h =
           ∙ ap (λ y. y ∷ more_characters n l.number) (sym (taken_is_same 54 characters p.0 p.1) ∙ p.2)
           ∙ ap (λ xs. c ∷ xs) (l.gives n (omega arith))),
     )
+
+pub short_is_its_number : ShortIsItsNumber
+unfolding candidate
+short_is_its_number n = (spelled_told false n, number_told n)
+
+pub short_is_onto : ShortIsOnto
+short_is_onto x h =
+    let n : (n : ℕ) × (x ≡ short n) = spelled_short x h in
+    ap (λ (y : Text). short (number_of_name y)) n.1 ∙ ap short (number_told n.0) ∙ sym n.1

@@ -6,8 +6,10 @@ use Rattle.name_rules.specs.FreeNames.{is_unchanged}
 use Rattle.name_rules.specs.GivenNames.{names_of_slots}
 use Rattle.name_rules.specs.Groups.{Member, members}
 use Rattle.name_rules.specs.Kept.{name_arguments}
+use Rattle.name_rules.specs.MangledLaws.{HasNewNames}
 use Rattle.name_rules.specs.Options.{Options}
 use Rattle.name_rules.specs.ShortNames.{candidate}
+use Rattle.name_rules.specs.Shortest.{changed_names}
 use Rattle.name_rules.specs.Slots.{number_of_slots, slots_of}
 use Rattle.tree_nodes.specs.Tree.{Parts, Text}
 use Rattle.tree_nodes.specs.NodeCount.{nodes_in}
@@ -25,6 +27,11 @@ candidate_limit o t = number_of_slots (slots_of o t) + length (distinct (forbidd
 -- each name that a slot gets is a candidate whose number is below these two together
 abbrev pub NamesAreBounded : Type 0
 NamesAreBounded = (o : Options) (t : Parts) (x : Text) → Contains (names_of_slots o t) x → (n : ℕ) × (x ≡ candidate o.readable n) × (n < candidate_limit o t)
+
+-- so is each name that bindings which aren't kept have in a tree under its new names
+abbrev pub ChangedNamesAreBounded : Type 0
+ChangedNamesAreBounded = (o : Options) (t u : Parts) → HasNewNames o t u
+    → (x : Text) → Contains (changed_names o t u) x → (n : ℕ) × (x ≡ candidate o.readable n) × (n < candidate_limit o t)
 
 -- which is below 2 ^ 31, where the tree's nodes and the reserved names are fewer than 2 ^ 30
 abbrev pub BoundIsSmall : Type 0

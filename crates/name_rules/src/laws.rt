@@ -3,7 +3,13 @@
 
 ghost use Rattle.name_rules.specs.MangledLaws.{NewNamesAreSound, NewNamesMangle};
 ghost use Rattle.name_rules.specs.NameCharacters.{ShortNamesAreIdentifiers};
-ghost use Rattle.name_rules.specs.NameOrder.{LengthsNeverFall, ShortIsOneToOne};
+ghost use Rattle.name_rules.specs.NameOrder.{
+  LengthsNeverFall,
+  ShorterNamesComeFirst,
+  ShortIsItsNumber,
+  ShortIsOneToOne,
+  ShortIsOnto,
+};
 ghost use Rattle.name_rules.specs.PrivateLaws.{PrivateNamesKeepBindings, PrivateNumbersDiffer};
 ghost use Rattle.name_rules.specs.SlotNames.{
   GivenNamesFit,
@@ -46,9 +52,17 @@ pub fn short_is_one_to_one()
     ensures { ShortIsOneToOne }
 {}
 
-/// The law that lengths of short names never fall as the number grows.
+/// The law that lengths of short names never fall as the number grows, so that a shorter name comes first.
 pub fn lengths_never_fall()
-    ensures { LengthsNeverFall }
+    ensures never { LengthsNeverFall }
+    ensures first { ShorterNamesComeFirst }
+{}
+
+/// The law that short names are the numbers of their digits: the n-th is spelled by the characters of names
+/// and is the number n, and each name that they spell is the short name of the number that it is.
+pub fn short_names_are_numbers()
+    ensures number { ShortIsItsNumber }
+    ensures onto { ShortIsOnto }
 {}
 
 /// The law that every short name is an identifier name.

@@ -15,7 +15,8 @@ pub use choice_laws::chosen_names_are_new;
 pub use laws::{
     given_names_keep_bindings, lengths_never_fall, live_together, live_up_to_home,
     new_names_mangle, private_names_keep_bindings, private_numbers_differ, short_is_one_to_one,
-    short_names_are_identifiers, slot_names_keep_bindings, slots_are_fewest, slots_never_clash,
+    short_names_are_identifiers, short_names_are_numbers, slot_names_keep_bindings,
+    slots_are_fewest, slots_never_clash,
 };
 pub use rival_laws::no_rival_uses_fewer;
 pub use shortest_laws::no_choice_is_shorter;

@@ -1,2 +1,3 @@
 mod NamedOnce
-mod Programs
+-- the laws
+pub mod Programs

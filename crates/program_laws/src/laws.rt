@@ -7,6 +7,7 @@ ghost use Rattle.program_laws.specs.Laws.{
   ProgramsKeepFunctionNamesApart,
   ProgramsNameFunctionsOnce,
 };
+ghost use Rattle.program_laws.specs.Least.{ProgramsGetLeastNames};
 
 /// The law that in a program each function expression has one Identifier as its name, or none.
 pub fn programs_name_functions_once()
@@ -33,4 +34,11 @@ pub fn names_of_programs_separate()
 /// least as many different names as groups are live in the program's busiest scope.
 pub fn no_rival_of_a_program_uses_fewer()
     ensures { NoRivalOfAProgramUsesFewer }
+{}
+
+/// The law that no names do better than those a program gets (`IsLeast`): no rival has fewer different ones for
+/// the bindings that aren't kept, no choice of free names makes the references to these shorter in sum, and
+/// each is a candidate below a limit that is below 2 ^ 31.
+pub fn programs_get_least_names()
+    ensures { ProgramsGetLeastNames }
 {}

@@ -2,7 +2,7 @@
 
 use crate::{
     names_of_programs_separate, no_rival_of_a_program_uses_fewer, programs_are_rooted,
-    programs_keep_function_names_apart, programs_name_functions_once,
+    programs_get_least_names, programs_keep_function_names_apart, programs_name_functions_once,
 };
 
 #[test]
@@ -12,4 +12,5 @@ fn laws_hold_of_programs() {
     programs_are_rooted();
     names_of_programs_separate();
     no_rival_of_a_program_uses_fewer();
+    programs_get_least_names();
 }

@@ -17,6 +17,8 @@ use Rattle.tree_core.specs.Limits.{is_too_large, has_long_part, objects_in, obje
 use Rattle.tree_core.specs.NodeCount.{nodes_in, node_count}
 use Rattle.tree_core.specs.Reading.{absent, are_distinct, below, find_member, is_listed, is_null_value, is_paired, items_from, list_of, offset_of, one, only_known, or_hole, outer_key, part_from, part_in, regex_part, row_for, run_of, shape_from, shape_of, template_part, text_in, tree_of, units_in, value_part}
 use Rattle.tree_nodes.proofs.Cases.{both, bytes_equal, bytes_same, if_some, map_some, neither, none_some, not_true, some_same, then_some}
+use Rattle.tree_core.proofs.Datums as datums
+use Rattle.tree_core.proofs.Datums.{is_datum}
 use Rattle.tree_core.proofs.FieldUnderKey.{part_found, part_in-part_found}
 use Rattle.tree_core.proofs.ReadFits.{row_of_object}
 use Rattle.tree_core.proofs.ReadsBack.{shape_read}
@@ -50,90 +52,10 @@ nodes_onto (many items p) q = omega (arith, nodes_onto p q)
 -- ---- fields that hold no node
 
 same_none : (p q : Parts) → Some p ≡ Some q → nodes_in p ≡ 0 → nodes_in q ≡ 0
-same_none p q e z = ap nodes_in (sym (some_same p q e)) ∙ z
-
-atom_none : {A : Type 0} (f : A → Atom) (o : Option A) (p : Parts) → option_map (λ x. one (f x)) o ≡ Some p → nodes_in p ≡ 0
-atom_none f o p e = let a = map_some (λ x. one (f x)) o p e in ap nodes_in (sym a.2)
-
--- null in place of a field that holds no node
-null_none : (b : Bool) (o : Option Parts) (p : Parts) → (if b then Some (one empty) else o) ≡ Some p → (o ≡ Some p → nodes_in p ≡ 0) → nodes_in p ≡ 0
-null_none true o p e some = same_none (one empty) p e refl
-null_none false o p e some = some e
-
-flag_none : (d : Json) (p : Parts) → part_from Flag [] d None (λ holes. None) ≡ Some p → nodes_in p ≡ 0
-flag_none null p e = none_some p e
-flag_none (truth b) p e = same_none (one (flag b)) p e refl
-flag_none (number n) p e = none_some p e
-flag_none other_number p e = none_some p e
-flag_none (string us) p e = none_some p e
-flag_none (list ds) p e = none_some p e
-flag_none (object ms) p e = none_some p e
-
-name_none : (o : Option (List ℕ)) (p : Parts) → option_and_then (λ x. if is_identifier_name x then Some (one (text x)) else None) o ≡ Some p → nodes_in p ≡ 0
-name_none o p e =
-    let a = then_some (λ x. if is_identifier_name x then Some (one (text x)) else None) o p e in
-    let b = if_some (is_identifier_name a.0) (Some (one (text a.0))) p a.2 in
-    same_none (one (text a.0)) p b.1 refl
-
-value_none : (d : Json) (p : Parts) → value_part d ≡ Some p → nodes_in p ≡ 0
-value_none null p e = same_none (one empty) p e refl
-value_none (truth b) p e = same_none (one (flag b)) p e refl
-value_none (number n) p e = atom_none whole (below (2 ^ 64) (number n)) p e
-value_none other_number p e = none_some p e
-value_none (string us) p e = atom_none units (units_in (string us)) p e
-value_none (list ds) p e = atom_none units (units_in (list ds)) p e
-value_none (object no_members) p e = same_none (one empty) p e refl
-value_none (object (member k d ms)) p e = none_some p e
-
-regex_none : (k : List ℕ) (d : Json) (p : Parts) → regex_part k d ≡ Some p → nodes_in p ≡ 0
-regex_none k null p e = same_none (one empty) p e refl
-regex_none k (truth b) p e = none_some p e
-regex_none k (number n) p e = none_some p e
-regex_none k other_number p e = none_some p e
-regex_none k (string us) p e = none_some p e
-regex_none k (list ds) p e = none_some p e
-regex_none k (object ms) p e = atom_none text (option_and_then text_in (find_member k ms)) p (if_some _ _ p e).1
-
-half_none : (optional : Bool) (o : Option Json) (p : Parts)
-    → (elim o [ None ↦ (if optional then Some (one empty) else None) | Some d ↦ (if optional && is_null_value d then Some (one empty) else option_map (λ us. one (units us)) (units_in d)) ]) ≡ Some p
-    → nodes_in p ≡ 0
-half_none optional None p e = same_none (one empty) p (if_some optional (Some (one empty)) p e).1 refl
-half_none optional (Some d) p e = null_none (optional && is_null_value d) _ p e (λ f. atom_none units (units_in d) p f)
-
-template_none : (optional : Bool) (k : List ℕ) (d : Json) (p : Parts) → template_part optional k d ≡ Some p → nodes_in p ≡ 0
-template_none optional k null p e = none_some p e
-template_none optional k (truth b) p e = none_some p e
-template_none optional k (number n) p e = none_some p e
-template_none optional k other_number p e = none_some p e
-template_none optional k (string us) p e = none_some p e
-template_none optional k (list ds) p e = none_some p e
-template_none optional k (object ms) p e = half_none optional (find_member k ms) p (if_some _ _ p e).1
+same_none p q e z = datums.same_none nodes_in (λ a. refl) refl p q e z
 
 absent_none : (class : FieldClass) (p : Parts) → absent class ≡ Some p → nodes_in p ≡ 0
-absent_none Flag p e = same_none (one (flag false)) p e refl
-absent_none (Word w) p e = none_some p e
-absent_none TextClass p e = none_some p e
-absent_none TextOr p e = same_none (one empty) p e refl
-absent_none Name p e = none_some p e
-absent_none LiteralValue p e = same_none (one empty) p e refl
-absent_none Pattern p e = same_none (one empty) p e refl
-absent_none Flags p e = same_none (one empty) p e refl
-absent_none Raw p e = none_some p e
-absent_none Cooked p e = none_some p e
-absent_none (One g) p e = none_some p e
-absent_none (Maybe g) p e = same_none (one empty) p e refl
-absent_none (Many g) p e = none_some p e
-absent_none (ManyOr g) p e = same_none (many done done) p e refl
-absent_none (Holes g) p e = none_some p e
-
--- a class of fields that hold no node
-abbrev is_datum : FieldClass → Bool
-is_datum (One g) = false
-is_datum (Maybe g) = false
-is_datum (Many g) = false
-is_datum (ManyOr g) = false
-is_datum (Holes g) = false
-is_datum _ = true
+absent_none class p e = datums.absent_none nodes_in (λ a. refl) refl class p e
 
 -- ---- fields that hold nodes
 
@@ -171,17 +93,20 @@ AtMost class p n = (nodes_in p ≤ n) × (is_datum class ≡ true → nodes_in p
 of_datum : (class : FieldClass) (p : Parts) (n : ℕ) → nodes_in p ≡ 0 → AtMost class p n
 of_datum class p n e = (none_count p n e, λ h. e)
 
+datum_count : (class : FieldClass) (k : List ℕ) (d : Json) (p : Parts) → is_datum class ≡ true → part_from class k d (shape_of d) (list_of d) ≡ Some p → AtMost class p (objects d)
+datum_count class k d p h e = of_datum class p (objects d) (datums.datum_none nodes_in (λ a. refl) refl class k d p h e)
+
 part_count : (class : FieldClass) (k : List ℕ) (d : Json) (p : Parts) → Counted d → part_from class k d (shape_of d) (list_of d) ≡ Some p → AtMost class p (objects d)
-part_count Flag k d p c e = of_datum Flag p (objects d) (flag_none d p e)
-part_count (Word w) k d p c e = of_datum (Word w) p (objects d) (atom_none word _ p e)
-part_count TextClass k d p c e = of_datum TextClass p (objects d) (atom_none text (text_in d) p e)
-part_count TextOr k d p c e = of_datum TextOr p (objects d) (null_none (is_null_value d) _ p e (λ f. atom_none text (text_in d) p f))
-part_count Name k d p c e = of_datum Name p (objects d) (name_none (text_in d) p e)
-part_count LiteralValue k d p c e = of_datum LiteralValue p (objects d) (value_none d p e)
-part_count Pattern k d p c e = of_datum Pattern p (objects d) (regex_none k d p e)
-part_count Flags k d p c e = of_datum Flags p (objects d) (regex_none k d p e)
-part_count Raw k d p c e = of_datum Raw p (objects d) (template_none false k d p e)
-part_count Cooked k d p c e = of_datum Cooked p (objects d) (template_none true k d p e)
+part_count Flag k d p c e = datum_count Flag k d p refl e
+part_count (Word w) k d p c e = datum_count (Word w) k d p refl e
+part_count TextClass k d p c e = datum_count TextClass k d p refl e
+part_count TextOr k d p c e = datum_count TextOr k d p refl e
+part_count Name k d p c e = datum_count Name k d p refl e
+part_count LiteralValue k d p c e = datum_count LiteralValue k d p refl e
+part_count Pattern k d p c e = datum_count Pattern k d p refl e
+part_count Flags k d p c e = datum_count Flags k d p refl e
+part_count Raw k d p c e = datum_count Raw k d p refl e
+part_count Cooked k d p c e = datum_count Cooked k d p refl e
 part_count (One g) k d p c e = (child_count d p c e, λ h. absurd (cc))
 part_count (Maybe g) k d p c e = (null_count (is_null_value d) _ p (objects d) e (λ f. child_count d p c f), λ h. absurd (cc))
 part_count (Many g) k d p c e = (list_count d false p c e, λ h. absurd (cc))

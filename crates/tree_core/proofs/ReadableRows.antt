@@ -2,6 +2,7 @@
 use Rattle.std.proofs.Common.{◌≡◌, ℕ, List, [], ◌∷◌, Bool, true, false, Bor, Option, None, Some, IfSome, bytes_eq, map, option_map, IsTrue, if◌then◌else◌, refl, sym, ap, ◌∙◌}
 use Rattle.std.specs.List.{list_all}
 use Rattle.std.proofs.lemmas.Bool.{and_parts}
+use Rattle.tree_nodes.proofs.EachKind.{of_each}
 use Rattle.tree_nodes.specs.declared.kind.Kind.{Kind}
 use Rattle.tree_nodes.specs.Kinds.{all_kinds}
 use Rattle.tree_core.specs.Readable.{are_readable}
@@ -14,6 +15,10 @@ reads_row k = are_readable (row k).columns
 
 all_rows : list_all reads_row all_kinds ≡ true
 all_rows = refl
+
+-- the columns of a kind
+pub columns_readable : (k : Kind) → are_readable (row k).columns ≡ true
+columns_readable k = of_each reads_row all_rows refl k
 
 found_at : (b : Bool) (k : Kind) (rest : Option Row) (r : Row) → (if b then Some (row k) else rest) ≡ Some r → reads_row k ≡ true
     → (rest ≡ Some r → IsTrue (are_readable r.columns)) → IsTrue (are_readable r.columns)

@@ -8,3 +8,4 @@ pub mod ReadError
 pub mod Laws
 pub mod NodeCount
 pub mod Program
+pub mod Widest

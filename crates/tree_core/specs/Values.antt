@@ -3,7 +3,7 @@ use Rattle.std.specs.Prelude.{ℕ, suc, pos, Bool, true, false, ◌&&◌, List, 
 use Rattle.json_text.specs.Json.{Json, null, truth, whole as number, string, list, object, Items, no_items, item, Members, no_members, member}
 use Rattle.tree_nodes.specs.declared.table.Class.{Class as FieldClass}
 use Rattle.json_text.specs.Units.{units_of}
-use Rattle.oxc_estree.specs.Out.{Meaning, Part, key, index}
+use Rattle.oxc_estree.specs.Out.{Meaning, Part, key, index, path_value}
 use Rattle.tree_nodes.specs.Literals.{is_fixed}
 use Rattle.tree_nodes.specs.Table.{Column, row, word_list}
 use Rattle.tree_nodes.specs.Tree.{Atom, Parts, Tree, atom, child, done, empty, flag, many, text, units, whole, word}
@@ -102,3 +102,14 @@ fix_paths t = own_path t.kind t.fields ++ fields_paths t.fields (row t.kind).col
 -- the value, and the path to the `value` of each such literal
 abbrev pub meaning_of : Tree → Meaning
 meaning_of t = record { value = value_of t; marks = map (λ p. p ++ key (codes "value") ∷ []) (fix_paths t) }
+
+-- ---- both in one value
+
+-- paths as a JSON list, each a list of its keys and positions
+abbrev pub paths_value : List (List Part) → Items
+paths_value [] = no_items
+paths_value (p ∷ ps) = item (path_value p) (paths_value ps)
+
+-- the object of exactly `node`, the value of a tree, and `fixes`, its fix paths
+abbrev pub wrapped_value : Tree → Json
+wrapped_value t = object (member (codes "node") (value_of t) (member (codes "fixes") (list (paths_value (fix_paths t))) no_members))

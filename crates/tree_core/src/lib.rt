@@ -8,7 +8,10 @@ mod print;
 mod program;
 mod read;
 
-pub use laws::{printed_text_reads, reading_undoes_printing};
+pub use laws::{
+    printed_text_reads, programs_are_small, reading_undoes_printing, trees_have_text,
+    wrapped_programs_read,
+};
 pub use limits::is_too_large;
 pub use program::{Program, SourceType};
 pub use read::{ReadError, read_tree};

@@ -2,7 +2,10 @@
 
 use crate::texts::{expression, json, module, output, printed};
 use std::test::Fail;
-use tree_core::{printed_text_reads, reading_undoes_printing};
+use tree_core::{
+    printed_text_reads, programs_are_small, reading_undoes_printing, trees_have_text,
+    wrapped_programs_read,
+};
 
 // As acorn writes `let x = 1; x`, with keys in another order, fields that hold nothing and fields
 // left out.
@@ -128,5 +131,8 @@ fn marks_lead_to_the_literals(rt: HostRuntime) -> Result<(), Fail> {
 fn laws_are_called(_rt: HostRuntime) -> Result<(), Fail> {
     reading_undoes_printing();
     printed_text_reads();
+    trees_have_text();
+    wrapped_programs_read();
+    programs_are_small();
     Ok(())
 }

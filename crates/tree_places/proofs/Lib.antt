@@ -7,6 +7,7 @@ pub mod Blind
 -- numbers of nodes, and the places in their order
 pub mod Numbers
 pub mod Lineages
+pub mod Enclosings
 pub mod Rising
 -- where the scopes of a place lie
 pub mod Homed

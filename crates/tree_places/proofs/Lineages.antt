@@ -106,7 +106,7 @@ field_fits f whole a outer inner p q =
     let s : Fits whole (side f.inside a) (at_side f.inside outer inner) = side_fits f.inside whole a outer inner p q in
     record { scope = rw (mark_keeps_scope f.mark) s.scope; var_scope = rw (mark_keeps_var_scope f.mark) s.var_scope }
 
-field_bare : (f : Column) (a : Around) → (at_field f a).bare ≡ is_bare f.mark
+pub field_bare : (f : Column) (a : Around) → (at_field f a).bare ≡ is_bare f.mark
 unfolding all_open
 field_bare f a = mark_bare f.mark a.fields _ _ _ refl
 
@@ -183,7 +183,7 @@ met_sites _ b e inner s n whole l h f = refl
 
 -- ---- the walk
 
-onto_append : {X Y : Type 0} (f : X → Y) (xs ys : List X) (w : List Y) → onto (map f (xs ++ ys)) w ≡ onto (map f ys) (onto (map f xs) w)
+pub onto_append : {X Y : Type 0} (f : X → Y) (xs ys : List X) (w : List Y) → onto (map f (xs ++ ys)) w ≡ onto (map f ys) (onto (map f xs) w)
 onto_append f [] ys w = refl
 onto_append f (x ∷ xs) ys w = onto_append f xs ys (f x ∷ w)
 

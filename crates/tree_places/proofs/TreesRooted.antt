@@ -1,6 +1,6 @@
 -- In a tree whose nodes stand where they may, each place lies in a var scope: in that of the Program, at least.
 use Rattle.std.specs.Prelude.{◌≡◌, ℕ, Bool, true, false, cond, ◌&&◌, List, [], ◌∷◌, length, reverse}
-use Rattle.std.proofs.Common.{refl, sym, ap, ◌∙◌, subst}
+use Rattle.std.proofs.Common.{refl, sym, ◌∙◌, subst}
 use Rattle.std.proofs.lemmas.Bool.{and_parts, both_ways}
 use Rattle.std.proofs.lemmas.Grind.{reverse_onto}
 use Rattle.list_laws.proofs.AllOf.{AllOf, AllOf_push}

@@ -3,6 +3,7 @@ use Rattle.std.specs.Prelude.{◌≡◌, ◌≤◌, ◌⊎◌, ℕ, suc, true, L
 use Rattle.std.specs.List.{AllByRecursion, list_any}
 use Rattle.tree_nodes.specs.Standing.{is_placed}
 use Rattle.tree_nodes.specs.Tree.{Parts, Tree, alone}
+use Rattle.tree_places.specs.Enclosing.{enclosed_in, said, said_by}
 use Rattle.tree_places.specs.Lineage.{found, found_by, lines_of, openers_of}
 use Rattle.tree_places.specs.Places.{names, scopes, sites, withs}
 use Rattle.tree_places.specs.Renaming.{IsRenamed}
@@ -15,6 +16,10 @@ RenamingMovesNoPlace = (t u : Parts) → IsRenamed t u → (sites u ≡ sites t)
 -- the number, the scope and the nearest var scope of each place, in printing order, are those that its lineage says
 abbrev pub ScopesAreNearest : Type 0
 ScopesAreNearest = (t : Parts) → map found (sites t) ≡ map (found_by (openers_of t)) (lines_of t)
+
+-- what holds where each place stands, in printing order, is what its enclosing nodes say: the class bodies around it, the scopes in whose parameters or catch pattern it lies, whether its code is strict, whether it lies in the declaration of an export
+abbrev pub EnclosingNodesTell : Type 0
+EnclosingNodesTell = (t : Parts) → map said (sites t) ≡ map said_by (enclosed_in t)
 
 -- each number is at least n, and greater than the one before
 abbrev pub RiseFrom : ℕ → List ℕ → Type 0

@@ -1,6 +1,7 @@
 //! The laws on places. The functions here do nothing: each has a law as its contract.
 
 ghost use Rattle.tree_places.specs.Laws.{
+  EnclosingNodesTell,
   NumbersRise,
   PlacedTreesAreRooted,
   RenamingMovesNoPlace,
@@ -19,6 +20,12 @@ pub fn renaming_moves_no_place()
 /// may declare; and that a place's number is that of its node among all nodes.
 pub fn scopes_are_nearest()
     ensures { ScopesAreNearest }
+{}
+
+/// The law that the nodes which enclose a place say which class bodies lie around it, in whose parameters or
+/// catch pattern it lies, whether its code is strict, and whether it lies in the declaration of an export.
+pub fn enclosing_nodes_tell()
+    ensures { EnclosingNodesTell }
 {}
 
 /// The law that numbers rise in printing order: those of places, and those of scopes, of which the

@@ -1,5 +1,5 @@
 -- A program renamed is a program.
-use Rattle.std.proofs.Common.{◌≡◌, ℕ, true, zero, suc, ◌+◌, ◌<◌, ◌^◌, List, [], ◌∷◌, Option, Some, None, String, IsTrue, drop, map, slice_get, string_bytes, refl, sym, ap, ap₂, subst, ◌∙◌, arith}
+use Rattle.std.proofs.Common.{◌≡◌, ℕ, true, zero, suc, ◌+◌, ◌<◌, ◌^◌, max, List, [], ◌∷◌, Option, Some, None, String, IsTrue, drop, map, slice_get, string_bytes, refl, sym, ap, ap₂, subst, ◌∙◌, arith}
 use Rattle.std.proofs.lemmas.Str.{IsUtf8-string_bytes}
 use Rattle.std.specs.List.{AllByRecursion}
 use Rattle.tree_core.proofs.FitsBack.{tree_back}
@@ -9,6 +9,8 @@ use Rattle.tree_core.proofs.ReadTrees.{tree_of-placed}
 use Rattle.tree_core.specs.NodeCount.{node_count, nodes_in}
 use Rattle.tree_core.specs.Program.{IsProgram}
 use Rattle.tree_core.specs.Values.{value_of}
+use Rattle.tree_core.specs.Widest.{widest_list}
+use Rattle.tree_nodes.specs.Look.{parts_len}
 use Rattle.tree_nodes.specs.Tree.{Parts, Text, Tree, alone, atom, child, done, flag, many, text}
 use Rattle.tree_nodes.specs.declared.kind.Kind.{Kind}
 use Rattle.tree_nodes.specs.declared.kind.Kind.TheVariants.{Identifier, PrivateIdentifier, Property}
@@ -56,6 +58,44 @@ counts u t e =
     let same : nodes_in (alone u) ≡ nodes_in (alone t) = sym (nodes_blind (alone u)) ∙ ap nodes_in e ∙ nodes_blind (alone t) in
     omega (arith, same)
 
+-- ---- lists as wide
+
+long_blind : (x : Parts) → parts_len (blind x) ≡ parts_len x
+unfolding blind
+long_blind done = refl
+long_blind (atom a more) = ap suc (long_blind more)
+long_blind (many items more) = ap suc (long_blind more)
+long_blind (child k s e fields more) = ap suc (long_blind more)
+
+widest_unnamed : (x : Parts) → widest_list (unnamed x) ≡ widest_list x
+unfolding unnamed
+widest_unnamed (atom (text t) more) = refl
+widest_unnamed _ = refl
+
+widest_unmarked : (x : Parts) → widest_list (unmarked x) ≡ widest_list x
+unfolding unmarked
+widest_unmarked (atom kind (child k s e key (child k' s' e' value (atom method (atom (flag mark) more))))) = refl
+widest_unmarked _ = refl
+
+widest_hide : (k : Kind) (x : Parts) → widest_list (hide k x) ≡ widest_list x
+unfolding hide
+widest_hide Identifier x = widest_unnamed x
+widest_hide PrivateIdentifier x = widest_unnamed x
+widest_hide Property x = widest_unmarked x
+widest_hide _ x = refl
+
+widest_blind : (x : Parts) → widest_list (blind x) ≡ widest_list x
+unfolding blind
+widest_blind done = refl
+widest_blind (atom a more) = widest_blind more
+widest_blind (many items more) = ap₂ max (long_blind items) (ap₂ max (widest_blind items) (widest_blind more))
+widest_blind (child k s e fields more) = ap₂ max (widest_hide k (blind fields) ∙ widest_blind fields) (widest_blind more)
+
+as_wide : (u t : Tree) → blind (alone u) ≡ blind (alone t) → widest_list u.fields ≡ widest_list t.fields
+as_wide u t e =
+    let same : max (widest_list u.fields) 0 ≡ max (widest_list t.fields) 0 = sym (widest_blind (alone u)) ∙ ap widest_list e ∙ widest_blind (alone t) in
+    omega (arith, same)
+
 -- ---- a program
 
 pub program_formed : (t : Tree) → IsProgram t → AreFormed (alone t) × Named (alone t)
@@ -68,7 +108,7 @@ renamed_programs t u p r n =
     let named = named_all (alone u) n in
     let new = tree_fits_alike u t r.alike formed named fits in
     let placed = tree_placed_alike u t r.alike formed named r.marked (shape_read (value_of t) t p.0).1 in
-    (tree_of-placed (value_of u) u (tree_back u new).0 placed, subst (λ k. k < 2 ^ 30) (sym (counts u t r.alike)) p.1)
+    (tree_of-placed (value_of u) u (tree_back u new).0 placed, subst (λ k. k < 2 ^ 30) (sym (counts u t r.alike)) p.1, subst (λ k. k < 2 ^ 30) (sym (as_wide u t r.alike)) p.2)
 
 -- ---- names that are chosen among identifier names
 

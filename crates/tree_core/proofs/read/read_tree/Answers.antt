@@ -3,6 +3,7 @@ use Rattle.std.proofs.lemmas.Result.{err_from_is_err_and}
 use Rattle.serde_json.specs.View.{view}
 use Rattle.tree_core.specs.JsonOf.{json_of}
 use Rattle.tree_core.specs.declared.read.ReadError.TheVariants.{BadTree}
+use Rattle.tree_core.proofs.ListWidths.{lists_are_narrow}
 use Rattle.tree_core.proofs.NodeCounts.{few_nodes}
 use Rattle.tree_core.proofs.ReadsBack.{reading_undoes_printing}
 use Rattle.tree_core.proofs.ReadTrees.{says_bad, tree_of-placed, tree_of-misplaced, tree_of-shapeless}
@@ -21,7 +22,8 @@ pub from_root-requires : goal.from_root-requires
 from_root-requires c =
     let read = tree_of-placed (json_of (view c.args.value.now)) c.in_ok-root.root c.in_ok-root.ensures.ok (sym c.is_placed.ensures ∙ c.if-not-is_placed.false) in
     let few = few_nodes (view c.args.value.now) c.in_ok-root.root c.args.more (sym c.is_too_large.ensures ∙ c.if-is_too_large.false) read in
-    (reading_undoes_printing (json_of (view c.args.value.now)) c.in_ok-root.root read, omega arith)
+    let narrow = lists_are_narrow (view c.args.value.now) c.in_ok-root.root c.args.more (sym c.is_too_large.ensures ∙ c.if-is_too_large.false) read in
+    (reading_undoes_printing (json_of (view c.args.value.now)) c.in_ok-root.root read, omega arith, narrow)
 
 pub returns-clause-ok : goal.returns-clause-ok
 returns-clause-ok c =
