@@ -21,21 +21,12 @@ fn of_owned<'a>(alloc: Global, arena: &'a Bump, text: Str<'_>) -> Result<Str<'a>
 
 #[test]
 fn a_str_is_its_text(rt: HostRuntime) -> Result<(), Fail> {
-    let alloc: Global = rt.alloc();
-    let arena = Bump::new(alloc);
-    assert_eq!(rt; Str::new_const("ab").as_str(), "ab");
-    assert!(rt; Str::empty() == Str::new_const(""));
-    assert_eq!(rt; Str::from_str_in(&arena, "ab")?.as_str(), "ab");
-    let both: ArenaStr<'_> = Str::from_strs2_in(&arena, "a", "b")?;
-    assert!(rt; both == Str::new_const("ab"));
+    let arena = Bump::new(rt.alloc());
+    let ab: ArenaStr<'_> = Str::from_strs2_in(&arena, "a", "b")?;
+    assert!(rt; ab.as_str() == "ab" && Str::from_str_in(&arena, "ab")? == ab);
     let borrowed: CowStr = CowStr::Borrowed("ab");
-    assert!(rt; Str::from_cow_in(&arena, &borrowed)? == both);
-    let owned = CowStr::Owned(both.into_string(alloc)?);
-    assert!(rt; Str::from_cow_in(&arena, &owned)? == both);
-    assert_eq!(rt; both.into_compact_str(alloc)?.as_str(), "ab");
-    assert_eq!(rt; both.to_compact_str(alloc)?.as_str(), "ab");
-    let shown = format!(in alloc; "{both:>4}")?;
-    assert_eq!(rt; shown.as_str(), "  ab");
+    assert!(rt; Str::from_cow_in(&arena, &borrowed)? == ab);
+    assert!(rt; of_owned(rt.alloc(), &arena, ab)? == ab && Str::empty() == Str::new_const(""));
     Ok(())
 }
 
