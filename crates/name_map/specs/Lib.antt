@@ -1,0 +1,3 @@
+pub mod Undoing
+pub mod Reading
+pub mod ReadError
