@@ -1,4 +1,5 @@
--- loops over places: a set, a map of first values
+-- loops over places: one that passes, a set, a map of first values
+pub mod AnyPassing
 pub mod MarkedSets
 pub mod FirstValues
 -- places with their bindings

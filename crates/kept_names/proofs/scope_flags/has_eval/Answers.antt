@@ -1,7 +1,7 @@
 use Rattle.std.proofs.Common.{sym, ◌∙◌}
 use Rattle.place_list.specs.TableViews.{place_in}
 use Rattle.scope_rules.specs.Evals.{is_eval}
-use Rattle.scope_tables.proofs.AnyPlace.{none_passes, none_passes_further, passing_found}
+use Rattle.kept_names.proofs.AnyPassing.{none_passes, none_passes_further, passing_found}
 use Rattle.kept_names.proofs.scope_flags.has_eval.Goals as goal
 
 pub returns-then-is_eval : goal.returns-then-is_eval
