@@ -1,5 +1,0 @@
-//! The calls of `kept_names` with ample memory, on a tree that is built by hand.
-#![tactic(auto)]
-
-#[cfg(test)]
-mod tests;
