@@ -4,3 +4,5 @@ pub mod ToldBytes
 pub mod WrappedWithin
 -- a program under its new names
 pub mod Mangles
+-- what is written of it
+pub mod Answers

@@ -181,6 +181,7 @@ module _ (t : Tree) (program : IsProgram t) (one : is_one_scope (alone t) ≡ tr
       let has : HasNewNames (usual_options t) (alone t) (alone u) = record { rooted = rooted.placed_trees_are_rooted t placed; renamed = renamed; names = new } in
       let old_sound : IsSound t = fault_told ∙ sound in
       record {
+        of_program = program;
         sound = old_sound;
         mangled = mangling.is_mangled (usual_options t) (alone t) (alone u) has (flat_trees.flat_faults (alone t) flat).1;
         names = new;
