@@ -1,7 +1,9 @@
 //! The bindings and the faults of a whole tree.
 
 ghost use Rattle.std.specs.Prelude.{◌≡◌, ◌<◌, IfOk, IfSome, Some, is_some, length, map, slice_get, take};
-ghost use Rattle.place_list.specs.TableViews.{places_in, scopes_in};
+ghost use Rattle.place_list.specs.Bounds.{IsBounded};
+ghost use Rattle.place_list.specs.Names.{AreNumbered};
+ghost use Rattle.place_list.specs.TableViews.{list_view, places_in, scopes_in};
 ghost use Rattle.scope_rules.specs.Bindings as rules;
 ghost use Rattle.scope_rules.specs.Bindings.{same_name};
 ghost use Rattle.scope_rules.specs.Evals.{contains};
@@ -36,6 +38,17 @@ impl<'t> ScopeTables<'t> {
         ensures tables { IfOk result (λ t. AreTables t) }
     {
         let list = list_places(alloc, root)?;
+        let resolved = resolve(alloc, &list, list.places.as_slice())?;
+        Ok(ScopeTables { list, resolved })
+    }
+
+    /// The tables of the places of a list, which they keep. Err is want of memory.
+    pub fn from_list(alloc: Global, list: PlaceList<'t>) -> Result<Self, AllocError>
+        requires bounded { IsBounded (list_view list) }
+        requires numbered { AreNumbered list.places.items }
+        ensures list { IfOk result (λ t. t.list ≡ list) }
+        ensures tables { IfOk result (λ t. AreTables t) }
+    {
         let resolved = resolve(alloc, &list, list.places.as_slice())?;
         Ok(ScopeTables { list, resolved })
     }

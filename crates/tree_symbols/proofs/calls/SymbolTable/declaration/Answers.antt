@@ -1,0 +1,12 @@
+use Rattle.std.proofs.Common.{ap, sym, ◌∙◌}
+use Rattle.std.specs.Prelude.{length, map, drop}
+use Rattle.scope_rules.specs.Bindings.{node, same_name}
+use Rattle.scope_rules.specs.Symbols.{symbols}
+use Rattle.tree_places.specs.Places.{Place}
+use Rattle.tree_symbols.specs.declared.known.KnownPlace.{KnownPlace}
+use Rattle.tree_symbols.proofs.Beside.{read_beside}
+use Rattle.tree_symbols.proofs.calls.SymbolTable.declaration.Goals as goal
+
+pub returns : goal.returns
+returns c = λ ps scopes a.
+    read_beside (λ (s : KnownPlace). s.place.node) (λ (b : Place). node b) c.args.self.now.symbols.items (symbols same_name ps) c.args.k _ a.nodes_are c.requires c.index.ensures

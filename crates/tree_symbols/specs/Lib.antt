@@ -1,0 +1,6 @@
+pub mod Known
+pub mod SymbolTables
+pub mod Flags
+pub mod ReferenceTables
+pub mod Unresolved
+pub mod Scopings
