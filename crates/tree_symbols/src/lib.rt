@@ -5,6 +5,7 @@ mod calls;
 mod flags;
 mod found;
 mod ids;
+mod iterators;
 mod known;
 mod known_places;
 mod reference_table;
@@ -14,6 +15,7 @@ mod symbol_flags;
 mod symbol_table;
 mod unresolved;
 
+pub use iterators::{Bindings, ScopeAncestors};
 pub use known::KnownPlace;
 pub use reference_table::ReferenceTable;
 pub use scoping::Scoping;

@@ -18,6 +18,7 @@ ghost use Rattle.tree_symbols.specs.ReferenceTables.{or_root, told, view};
 ghost use Rattle.tree_symbols.specs.Scopings.{IsScoping, parent_of, places_of, scopes_of};
 
 use crate::flags::scope_flags;
+use crate::iterators::{Bindings, ScopeAncestors};
 use crate::known_places::known_places;
 use crate::reference_table::ReferenceTable;
 use crate::rows::declared_symbols;
@@ -91,6 +92,14 @@ impl<'t> Scoping<'t> {
         ensures { result ≡ length (symbols same_name (places_of self.now)) }
     {
         self.symbols.len()
+    }
+
+    /// How many references there are.
+    pub fn references_len(&self) -> usize
+        requires { IsScoping self.now }
+        ensures { result ≡ length (references (places_of self.now)) }
+    {
+        self.references.len()
     }
 
     /// How many scopes there are.
@@ -175,6 +184,27 @@ impl<'t> Scoping<'t> {
         match self.list.parent(id.index() as u32) {
             Some(parent) => Some(ScopeId::from_usize(parent as usize)),
             None => None,
+        }
+    }
+
+    /// A scope and those around it, from the scope itself outwards.
+    pub fn scope_ancestors(&self, id: ScopeId) -> ScopeAncestors<'_>
+        requires scoping { IsScoping self.now }
+        requires id { scope_id.number_of id < length (scopes_of self.now) }
+    {
+        ScopeAncestors {
+            scopes: self.list.scopes.as_slice(),
+            at: Some(id.index() as u32),
+        }
+    }
+
+    /// Each scope, rising, with what `get_bindings` gives of it.
+    pub fn iter_bindings(&self) -> Bindings<'_>
+        requires { IsScoping self.now }
+    {
+        Bindings {
+            lists: &self.symbols.scope_symbols,
+            at: 0,
         }
     }
 

@@ -109,6 +109,11 @@ fn answers_of_a_function(rt: HostRuntime) -> Result<(), Fail> {
     let listed = scoping.get_bindings(inner);
     assert_eq!(rt; listed.len(), 1);
     assert_eq!(rt; listed[0], a);
+    let mut around = scoping.scope_ancestors(inner);
+    assert_eq!(rt; around.next(), Some(inner));
+    assert_eq!(rt; around.next(), Some(top));
+    assert!(rt; around.next().is_none());
+    assert_eq!(rt; scoping.iter_bindings().count(), 2);
     let uses = scoping.get_resolved_reference_ids(f);
     assert_eq!(rt; uses.len(), 1);
     assert_eq!(rt; uses[0].index(), 1);
