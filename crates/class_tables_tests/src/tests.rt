@@ -93,10 +93,10 @@ fn private_names_are_found(rt: HostRuntime) -> Result<(), Fail> {
         ("v", Some(22), Some(2), Some(0)),
         ("eval", None, None, None),
     ];
-    assert_eq!(rt; list.places.len(), 10);
+    assert!(rt; list.places.len() == 10);
     for i in 0..10 {
         let (name, binding, class, index) = places[i];
-        assert_eq!(rt; list.places[i].name, name);
+        assert!(rt; list.places[i].name == name);
         assert!(rt; table.private_binding(i) == binding, "binding of {}", name);
         assert!(rt; table.declaring_class(i) == class, "class of {}", name);
         assert!(rt; table.name_index(i) == index, "index of {}", name);
@@ -112,16 +112,16 @@ fn class_bodies_are_told(rt: HostRuntime) -> Result<(), Fail> {
     let root = sample(alloc)?;
     let list = list_places(alloc, &root)?;
     let table = PrivateTable::new(alloc, &list)?;
-    assert_eq!(rt; list.class_bodies.len(), 3);
+    assert!(rt; list.class_bodies.len() == 3);
     let class_bodies = [(3, "x", true, 0), (2, "x", false, 2), (1, "v", true, 0)];
     for class_body in 0..3_u32 {
         let (count, first, is_open, closed) = class_bodies[class_body as usize];
         let names = table.private_names(class_body);
-        assert_eq!(rt; names.len(), count);
+        assert!(rt; names.len() == count);
         assert!(rt; !names.is_empty() && names[0] == first, "first name");
         assert!(rt; table.is_open(class_body) == is_open, "open");
-        assert_eq!(rt; table.closed_count(Some(class_body)), closed);
+        assert!(rt; table.closed_count(Some(class_body)) == closed);
     }
-    assert_eq!(rt; table.closed_count(None), 0);
+    assert!(rt; table.closed_count(None) == 0);
     Ok(())
 }

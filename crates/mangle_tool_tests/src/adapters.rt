@@ -38,7 +38,7 @@ impl Read for Stumbling {
 fn a_reader_is_a_source(rt: HostRuntime) -> Result<(), Fail> {
     let mut source = ReaderSource::new(Cursor::new(TEXT));
     let read = read_all(rt.alloc(), &mut source, 100)?;
-    assert_eq!(rt; read.as_slice(), TEXT);
+    assert!(rt; read.as_slice() == TEXT);
     Ok(())
 }
 
@@ -46,9 +46,9 @@ fn a_reader_is_a_source(rt: HostRuntime) -> Result<(), Fail> {
 fn a_reader_that_failed_is_read_on(rt: HostRuntime) -> Result<(), Fail> {
     let mut source = ReaderSource::new(Stumbling { calls: 0 });
     let failed = read_all(rt.alloc(), &mut source, 100);
-    assert_eq!(rt; failed.err(), Some(ReadAllError::Failed));
+    assert!(rt; failed.err() == Some(ReadAllError::Failed));
     let rest = read_all(rt.alloc(), &mut source, 100)?;
-    assert_eq!(rt; rest.as_slice(), b"b".as_slice());
+    assert!(rt; rest.as_slice() == b"b".as_slice());
     Ok(())
 }
 
@@ -56,7 +56,7 @@ fn a_reader_that_failed_is_read_on(rt: HostRuntime) -> Result<(), Fail> {
 fn a_writer_is_a_sink(rt: HostRuntime) -> Result<(), Fail> {
     let mut written = Vec::new(rt.alloc());
     write_whole(&mut WriterSink::new(&mut written), TEXT)?;
-    assert_eq!(rt; written.as_slice(), TEXT);
+    assert!(rt; written.as_slice() == TEXT);
     Ok(())
 }
 
@@ -64,8 +64,8 @@ fn a_writer_is_a_sink(rt: HostRuntime) -> Result<(), Fail> {
 fn a_writer_that_takes_no_more_bytes_fails(rt: HostRuntime) {
     let mut room = [0; 9];
     let outcome = write_whole(&mut WriterSink::new(room.as_mut_slice()), TEXT);
-    assert_eq!(rt; outcome, Err(Failed));
-    assert_eq!(rt; room.as_slice(), b"{\"node\":\n".as_slice());
+    assert!(rt; outcome == Err(Failed));
+    assert!(rt; room.as_slice() == b"{\"node\":\n".as_slice());
 }
 
 // Takes all bytes, counts how often it is flushed, and fails then if it is to.
@@ -95,7 +95,7 @@ fn a_writer_is_flushed_once_at_the_end(rt: HostRuntime) {
     for (fails, outcome) in [(false, Ok(())), (true, Err(Failed))] {
         let mut writer = Flushes { count: 0, fails };
         let written = write_whole(&mut WriterSink::new(&mut writer), TEXT);
-        assert_eq!(rt; written, outcome);
-        assert_eq!(rt; writer.count, 1);
+        assert!(rt; written == outcome);
+        assert!(rt; writer.count == 1);
     }
 }

@@ -44,9 +44,8 @@ fn fields_may_be_left_out_or_not(rt: HostRuntime) -> Result<(), Fail> {
         (",\"raw\":\"1\"", true),
     ] {
         let error = error_without(rt.alloc(), field)?;
-        assert_eq!(rt;
-            error,
-            (!is_tree).then_some(MangleError::BadTree),
+        assert!(rt;
+            error == (!is_tree).then_some(MangleError::BadTree),
             "without {field}"
         );
     }

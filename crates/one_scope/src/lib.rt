@@ -21,8 +21,3 @@ pub use options::MangleOptions;
 pub use slots::{Slots, keeps_all, slots_of_places};
 pub use walk::list_places;
 pub use walk_laws::one_scope_is_flat;
-
-#[cfg(test)]
-mod entry_tests;
-#[cfg(test)]
-mod tests;

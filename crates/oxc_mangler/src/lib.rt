@@ -7,8 +7,6 @@ mod guard;
 mod names_by_weight;
 mod next_name;
 mod short_names;
-#[cfg(test)]
-mod tests;
 
 pub use first_free::free_names;
 pub use guard::Guard;

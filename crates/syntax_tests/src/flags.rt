@@ -6,8 +6,8 @@ mod references;
 mod scopes;
 mod symbols;
 
-// Whether a text of names with a space between two has a name among them.
-fn is_listed(names: &str, name: &str) -> bool {
+/// Whether a text of names with a space between two has a name among them.
+pub fn is_listed(names: &str, name: &str) -> bool {
     for listed in names.split(' ') {
         if listed == name {
             return true;

@@ -8,27 +8,35 @@ use oxc_syntax::{
 use std::test::Fail;
 
 #[test]
-fn modules(rt: HostRuntime) -> Result<(), Fail> {
-    let alloc = rt.alloc();
+fn modules_of_the_lexer(rt: HostRuntime) {
     assert!(rt; identifier::is_identifier_name("a") && keyword::is_reserved_keyword("let"));
     assert!(rt; line_terminator::is_line_terminator(line_terminator::LS));
-    assert!(rt;
-        operator::UnaryOperator::Void.is_void() && number::BigintBase::Decimal.is_base_10()
-    );
+    assert!(rt; operator::UnaryOperator::Void.is_void());
+    assert!(rt; number::BigintBase::Decimal.is_base_10());
     assert!(rt; precedence::Precedence::Add.is_additive());
     assert!(rt; es_target::ESTarget::default() == es_target::ESTarget::ESNext);
-    let text = CompactStr::new(alloc, "a")?;
-    let value = constant_value::ConstantValue::String(text);
-    assert!(rt; value == value);
-    let record = module_record::ModuleRecord::new(alloc)?;
-    assert!(rt; !record.has_module_syntax);
+}
+
+#[test]
+fn modules_of_ids_and_flags(rt: HostRuntime) {
     assert!(rt; node::NodeId::ROOT == node::NodeId::default());
-    assert_eq!(rt; class::ClassId::from_usize(1).index(), 1);
-    let flags = reference::ReferenceFlags::read();
-    let at = node::NodeId::ROOT;
-    let use_of = reference::Reference::new(at, scope::ScopeId::from_usize(0), flags);
-    assert!(rt; use_of.is_read() && span::Span::new(1, 2).start == 1);
+    assert!(rt; class::ClassId::from_usize(1).index() == 1);
+    assert!(rt; span::Span::new(1, 2).start == 1);
     assert!(rt; symbol::SymbolFlags::FUNCTION.is_function());
     let _with = semantic_id::CloneInSemanticIds::With;
+}
+
+#[test]
+fn module_of_references(rt: HostRuntime) {
+    let scope = scope::ScopeId::from_usize(0);
+    let flags = reference::ReferenceFlags::read();
+    assert!(rt; reference::Reference::new(node::NodeId::ROOT, scope, flags).is_read());
+}
+
+#[test]
+fn modules_of_values_and_records(rt: HostRuntime) -> Result<(), Fail> {
+    let value = constant_value::ConstantValue::String(CompactStr::new(rt.alloc(), "a")?);
+    assert!(rt; value == value);
+    assert!(rt; !module_record::ModuleRecord::new(rt.alloc())?.has_module_syntax);
     Ok(())
 }

@@ -1,131 +1,128 @@
 //! How operators are written, and of which kinds they are.
 
-use std::alloc::{AllocError, Global};
-use std::test::Fail;
+use crate::flags::is_listed;
 use syntax_lex::operator::{
     AssignmentOperator, BinaryOperator, LogicalOperator, UnaryOperator, UpdateOperator,
 };
 use syntax_lex::precedence::GetPrecedence;
 
-// The names of the classes that hold, in order.
-fn holding(alloc: Global, classes: &[(&str, bool)]) -> Result<String, AllocError> {
-    let mut names = String::new(alloc);
+// Whether exactly those classes hold that are listed.
+fn hold_as_listed(classes: &[(&str, bool)], listed: &str) -> bool {
     for (name, holds) in classes {
-        if *holds {
-            names.push_str(name)?;
-            names.push(' ')?;
+        if *holds != is_listed(listed, name) {
+            return false;
         }
     }
-    Ok(names)
+    true
 }
 
-fn assignment_classes(alloc: Global, operator: AssignmentOperator) -> Result<String, AllocError> {
-    holding(
-        alloc,
-        &[
-            ("assign", operator.is_assign()),
-            ("logical", operator.is_logical()),
-            ("arithmetic", operator.is_arithmetic()),
-            ("bitwise", operator.is_bitwise()),
-        ],
-    )
+fn is_assignment_of(operator: AssignmentOperator, listed: &str) -> bool {
+    let classes = [
+        ("assign", operator.is_assign()),
+        ("logical", operator.is_logical()),
+        ("arithmetic", operator.is_arithmetic()),
+        ("bitwise", operator.is_bitwise()),
+    ];
+    hold_as_listed(&classes, listed)
+}
+
+// The text of the operator that is applied before the assignment, if that one leads back.
+fn applied(operator: AssignmentOperator) -> &'static str {
+    match operator.to_binary_operator() {
+        Some(binary) if binary.to_assignment_operator() == Some(operator) => binary.as_str(),
+        _ => applied_in_short(operator),
+    }
+}
+
+fn applied_in_short(operator: AssignmentOperator) -> &'static str {
+    match operator.to_logical_operator() {
+        Some(logical) if logical.to_assignment_operator() == operator => logical.as_str(),
+        _ => "",
+    }
 }
 
 #[test]
-fn assignment_operators(rt: HostRuntime) -> Result<(), Fail> {
+fn assignment_operators(rt: HostRuntime) {
     use AssignmentOperator::*;
-    let alloc = rt.alloc();
     for (operator, text, classes) in [
-        (Assign, "=", "assign "),
-        (Addition, "+=", "arithmetic "),
-        (Subtraction, "-=", "arithmetic "),
-        (Multiplication, "*=", "arithmetic "),
-        (Division, "/=", "arithmetic "),
-        (Remainder, "%=", "arithmetic "),
-        (Exponential, "**=", "arithmetic "),
-        (ShiftLeft, "<<=", "bitwise "),
-        (ShiftRight, ">>=", "bitwise "),
-        (ShiftRightZeroFill, ">>>=", "bitwise "),
-        (BitwiseOR, "|=", "bitwise "),
-        (BitwiseXOR, "^=", "bitwise "),
-        (BitwiseAnd, "&=", "bitwise "),
-        (LogicalOr, "||=", "logical "),
-        (LogicalAnd, "&&=", "logical "),
-        (LogicalNullish, "??=", "logical "),
+        (Assign, "=", "assign"),
+        (Addition, "+=", "arithmetic"),
+        (Subtraction, "-=", "arithmetic"),
+        (Multiplication, "*=", "arithmetic"),
+        (Division, "/=", "arithmetic"),
+        (Remainder, "%=", "arithmetic"),
+        (Exponential, "**=", "arithmetic"),
+        (ShiftLeft, "<<=", "bitwise"),
+        (ShiftRight, ">>=", "bitwise"),
+        (ShiftRightZeroFill, ">>>=", "bitwise"),
+        (BitwiseOR, "|=", "bitwise"),
+        (BitwiseXOR, "^=", "bitwise"),
+        (BitwiseAnd, "&=", "bitwise"),
+        (LogicalOr, "||=", "logical"),
+        (LogicalAnd, "&&=", "logical"),
+        (LogicalNullish, "??=", "logical"),
     ] {
-        assert_eq!(rt; operator.as_str(), text);
-        assert_eq!(rt; assignment_classes(alloc, operator)?.as_str(), classes);
-        if let Some(binary) = operator.to_binary_operator() {
-            assert!(rt; binary.to_assignment_operator() == Some(operator));
-            assert!(rt;
-                text.len() == binary.as_str().len() + 1 && text.starts_with(binary.as_str())
-            );
-        }
-        if let Some(logical) = operator.to_logical_operator() {
-            assert!(rt; logical.to_assignment_operator() == operator);
-            assert!(rt;
-                text.len() == logical.as_str().len() + 1 && text.starts_with(logical.as_str())
-            );
-        }
-        let is_plain = operator.to_binary_operator().is_none()
-            && operator.to_logical_operator().is_none();
-        assert_eq!(rt; is_plain, operator.is_assign());
+        assert!(rt;
+            operator.as_str() == text && is_assignment_of(operator, classes),
+            "{text}"
+        );
+        assert!(rt; text.strip_suffix('=') == Some(applied(operator)), "{text}");
     }
-    Ok(())
 }
 
-fn binary_classes(alloc: Global, operator: BinaryOperator) -> Result<String, AllocError> {
-    holding(
-        alloc,
-        &[
-            ("equality", operator.is_equality()),
-            ("compare", operator.is_compare()),
-            ("arithmetic", operator.is_arithmetic()),
-            ("multiplicative", operator.is_multiplicative()),
-            ("relational", operator.is_relational()),
-            ("in", operator.is_in()),
-            ("instanceof", operator.is_instance_of()),
-            ("bitwise", operator.is_bitwise()),
-            ("shift", operator.is_bitshift()),
-            ("number", operator.is_numeric_or_string_binary_operator()),
-            ("word", operator.is_keyword()),
-        ],
-    )
+fn is_binary_of(operator: BinaryOperator, listed: &str) -> bool {
+    let classes = [
+        ("equality", operator.is_equality()),
+        ("compare", operator.is_compare()),
+        ("arithmetic", operator.is_arithmetic()),
+        ("multiplicative", operator.is_multiplicative()),
+        ("relational", operator.is_relational()),
+        ("in", operator.is_in()),
+        ("instanceof", operator.is_instance_of()),
+        ("bitwise", operator.is_bitwise()),
+        ("shift", operator.is_bitshift()),
+        ("number", operator.is_numeric_or_string_binary_operator()),
+        ("word", operator.is_keyword()),
+    ];
+    hold_as_listed(&classes, listed)
 }
 
 #[test]
-fn binary_operators(rt: HostRuntime) -> Result<(), Fail> {
+fn binary_operators(rt: HostRuntime) {
     use BinaryOperator::*;
-    let alloc = rt.alloc();
     for (operator, text, classes) in [
-        (Equality, "==", "equality "),
-        (Inequality, "!=", "equality "),
-        (StrictEquality, "===", "equality "),
-        (StrictInequality, "!==", "equality "),
-        (LessThan, "<", "compare "),
-        (LessEqualThan, "<=", "compare "),
-        (GreaterThan, ">", "compare "),
-        (GreaterEqualThan, ">=", "compare "),
-        (Addition, "+", "arithmetic number "),
-        (Subtraction, "-", "arithmetic number "),
-        (Multiplication, "*", "arithmetic multiplicative number "),
-        (Division, "/", "arithmetic multiplicative number "),
-        (Remainder, "%", "arithmetic multiplicative number "),
-        (Exponential, "**", "arithmetic number "),
-        (ShiftLeft, "<<", "bitwise shift number "),
-        (ShiftRight, ">>", "bitwise shift number "),
-        (ShiftRightZeroFill, ">>>", "bitwise shift number "),
-        (BitwiseOR, "|", "bitwise number "),
-        (BitwiseXOR, "^", "bitwise number "),
-        (BitwiseAnd, "&", "bitwise number "),
-        (In, "in", "relational in word "),
-        (Instanceof, "instanceof", "relational instanceof word "),
+        (Equality, "==", "equality"),
+        (Inequality, "!=", "equality"),
+        (StrictEquality, "===", "equality"),
+        (StrictInequality, "!==", "equality"),
+        (LessThan, "<", "compare"),
+        (LessEqualThan, "<=", "compare"),
+        (GreaterThan, ">", "compare"),
+        (GreaterEqualThan, ">=", "compare"),
+        (Addition, "+", "arithmetic number"),
+        (Subtraction, "-", "arithmetic number"),
+        (Multiplication, "*", "arithmetic multiplicative number"),
+        (Division, "/", "arithmetic multiplicative number"),
+        (Remainder, "%", "arithmetic multiplicative number"),
+        (Exponential, "**", "arithmetic number"),
+        (ShiftLeft, "<<", "bitwise shift number"),
+        (ShiftRight, ">>", "bitwise shift number"),
+        (ShiftRightZeroFill, ">>>", "bitwise shift number"),
+        (BitwiseOR, "|", "bitwise number"),
+        (BitwiseXOR, "^", "bitwise number"),
+        (BitwiseAnd, "&", "bitwise number"),
+        (In, "in", "relational in word"),
+        (Instanceof, "instanceof", "relational instanceof word"),
     ] {
-        assert_eq!(rt; operator.as_str(), text);
-        assert_eq!(rt; binary_classes(alloc, operator)?.as_str(), classes);
-        assert!(rt; operator.lower_precedence() < operator.precedence());
+        assert!(rt;
+            operator.as_str() == text && is_binary_of(operator, classes),
+            "{text}"
+        );
+        assert!(rt;
+            operator.lower_precedence() < operator.precedence(),
+            "{text}"
+        );
     }
-    Ok(())
 }
 
 #[test]
@@ -140,6 +137,15 @@ fn inverse_operators(rt: HostRuntime) {
     assert!(rt; In.to_assignment_operator().is_none());
 }
 
+fn is_logical_of(operator: LogicalOperator, text: &str) -> bool {
+    let classes = [
+        ("||", operator.is_or()),
+        ("&&", operator.is_and()),
+        ("??", operator.is_coalesce()),
+    ];
+    hold_as_listed(&classes, text)
+}
+
 #[test]
 fn logical_operators(rt: HostRuntime) {
     for (operator, text) in [
@@ -147,38 +153,42 @@ fn logical_operators(rt: HostRuntime) {
         (LogicalOperator::And, "&&"),
         (LogicalOperator::Coalesce, "??"),
     ] {
-        assert_eq!(rt; operator.as_str(), text);
-        assert_eq!(rt; operator.is_or(), text == "||");
-        assert_eq!(rt; operator.is_and(), text == "&&");
-        assert_eq!(rt; operator.is_coalesce(), text == "??");
+        assert!(rt;
+            operator.as_str() == text && is_logical_of(operator, text),
+            "{text}"
+        );
     }
-    assert_eq!(rt; UpdateOperator::Increment.as_str(), "++");
-    assert_eq!(rt; UpdateOperator::Decrement.as_str(), "--");
+    assert!(rt; UpdateOperator::Increment.as_str() == "++");
+    assert!(rt; UpdateOperator::Decrement.as_str() == "--");
+}
+
+fn is_unary_of(operator: UnaryOperator, listed: &str) -> bool {
+    let classes = [
+        ("arithmetic", operator.is_arithmetic()),
+        ("not", operator.is_not()),
+        ("bitwise", operator.is_bitwise()),
+        ("typeof", operator.is_typeof()),
+        ("void", operator.is_void()),
+        ("delete", operator.is_delete()),
+        ("word", operator.is_keyword()),
+    ];
+    hold_as_listed(&classes, listed)
 }
 
 #[test]
-fn unary_operators(rt: HostRuntime) -> Result<(), Fail> {
-    let alloc = rt.alloc();
+fn unary_operators(rt: HostRuntime) {
     for (operator, text, classes) in [
-        (UnaryOperator::UnaryPlus, "+", "arithmetic "),
-        (UnaryOperator::UnaryNegation, "-", "arithmetic "),
-        (UnaryOperator::LogicalNot, "!", "not "),
-        (UnaryOperator::BitwiseNot, "~", "bitwise "),
-        (UnaryOperator::Typeof, "typeof", "typeof word "),
-        (UnaryOperator::Void, "void", "void word "),
-        (UnaryOperator::Delete, "delete", "delete word "),
+        (UnaryOperator::UnaryPlus, "+", "arithmetic"),
+        (UnaryOperator::UnaryNegation, "-", "arithmetic"),
+        (UnaryOperator::LogicalNot, "!", "not"),
+        (UnaryOperator::BitwiseNot, "~", "bitwise"),
+        (UnaryOperator::Typeof, "typeof", "typeof word"),
+        (UnaryOperator::Void, "void", "void word"),
+        (UnaryOperator::Delete, "delete", "delete word"),
     ] {
-        let holds = [
-            ("arithmetic", operator.is_arithmetic()),
-            ("not", operator.is_not()),
-            ("bitwise", operator.is_bitwise()),
-            ("typeof", operator.is_typeof()),
-            ("void", operator.is_void()),
-            ("delete", operator.is_delete()),
-            ("word", operator.is_keyword()),
-        ];
-        assert_eq!(rt; operator.as_str(), text);
-        assert_eq!(rt; holding(alloc, &holds)?.as_str(), classes);
+        assert!(rt;
+            operator.as_str() == text && is_unary_of(operator, classes),
+            "{text}"
+        );
     }
-    Ok(())
 }

@@ -64,15 +64,17 @@ fn declarations_bind(rt: HostRuntime) -> Result<(), Fail> {
         // `a`
         ("{'type':'ExpressionStatement','expression':@}", ""),
     ] {
-        assert_eq!(rt; bound_by(rt.alloc(), statement)?.as_str(), wanted);
+        assert!(rt;
+            bound_by(rt.alloc(), statement)?.as_str() == wanted,
+            "{statement}"
+        );
     }
     Ok(())
 }
 
 #[test]
-fn laws_are_called(_rt: HostRuntime) -> Result<(), Fail> {
+fn laws_are_called(_rt: HostRuntime) {
     bound_names_are_declared();
     bound_names_are_identifiers();
     bound_names_by_kind();
-    Ok(())
 }

@@ -1,6 +1,6 @@
 //! Each public call with ample memory, on trees that are built by hand.
 
-use crate::{is_one_scope, list_places};
+use one_scope::{is_one_scope, list_places};
 use std::alloc::{AllocError, Global};
 use std::test::Fail;
 use tree_nodes::{Declared, Field, FieldList, Kind, Node, NodeList, Role, TreeText, is_placed};
@@ -83,11 +83,21 @@ fn places_are_listed(rt: HostRuntime) -> Result<(), Fail> {
         (6, "read", "second"),
         (8, "read", "third"),
     ];
-    assert_eq!(rt; places.len(), wanted.len());
+    assert!(rt; places.len() == wanted.len());
     for (place, wanted) in places.iter().zip(wanted) {
-        assert_eq!(rt; (place.node, word(place.role), place.name), wanted);
+        assert!(rt;
+            (place.node, word(place.role), place.name) == wanted,
+            "{}",
+            place.name
+        );
     }
     Ok(())
+}
+
+// Whether a program of a node without fields has one scope.
+fn is_one_scope_around(alloc: Global, kind: Kind) -> Result<bool, AllocError> {
+    let root = program(alloc, vec![in alloc; Some(node(kind, Vec::new(alloc)))]?)?;
+    Ok(is_one_scope(&root))
 }
 
 #[test]
@@ -101,8 +111,11 @@ fn one_scope_is_told(rt: HostRuntime) -> Result<(), Fail> {
         (Kind::FunctionDeclaration, false),
         (Kind::Program, false),
     ] {
-        let root = program(alloc, vec![in alloc; Some(node(kind, Vec::new(alloc)))]?)?;
-        assert_eq!(rt; is_one_scope(&root), wanted, "{}", kind.number());
+        assert!(rt;
+            is_one_scope_around(alloc, kind)? == wanted,
+            "{}",
+            kind.number()
+        );
     }
     Ok(())
 }
