@@ -84,6 +84,7 @@ fn free_names_pass_over_what_was_inserted(rt: HostRuntime) -> Result<(), Fail> {
     let mut guard = Guard::new(rt.alloc());
     guard.insert("e")?;
     guard.insert("n")?;
+    guard.insert("slot_1")?;
     let short = free_names(rt.alloc(), &guard, false, 3)?;
     assert!(rt; short.len() == 3);
     for (place, name) in [(0, "t"), (1, "r"), (2, "i")] {
@@ -95,6 +96,7 @@ fn free_names_pass_over_what_was_inserted(rt: HostRuntime) -> Result<(), Fail> {
 #[test]
 fn readable_names_pass_over_what_was_inserted(rt: HostRuntime) -> Result<(), Fail> {
     let mut guard = Guard::new(rt.alloc());
+    guard.insert("e")?;
     guard.insert("slot_1")?;
     let readable = free_names(rt.alloc(), &guard, true, 11)?;
     assert!(rt; readable.len() == 11);

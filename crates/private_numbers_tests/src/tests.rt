@@ -122,10 +122,10 @@ fn private_names_are_numbered(rt: HostRuntime) -> Result<(), Fail> {
         ("z", "n"),
         ("x", "e"),
     ];
-    assert_eq!(rt; list.places.len(), 6);
+    assert!(rt; list.places.len() == 6);
     for i in 0..6 {
         let (name, wanted) = places[i];
-        assert_eq!(rt; list.places[i].name, name);
+        assert!(rt; list.places[i].name == name);
         let new_name = numbers.new_name(i);
         assert!(rt; is_wanted(new_name, wanted), "{}", name);
     }
@@ -147,10 +147,10 @@ fn kept_names_are_avoided(rt: HostRuntime) -> Result<(), Fail> {
         ("y", "t"),
         ("e", ""),
     ];
-    assert_eq!(rt; list.places.len(), 6);
+    assert!(rt; list.places.len() == 6);
     for i in 0..6 {
         let (name, wanted) = places[i];
-        assert_eq!(rt; list.places[i].name, name);
+        assert!(rt; list.places[i].name == name);
         let new_name = numbers.new_name(i);
         assert!(rt; is_wanted(new_name, wanted), "{}", name);
     }
@@ -164,12 +164,12 @@ fn class_bodies_have_numbers(rt: HostRuntime) -> Result<(), Fail> {
     let list = list_places(alloc, &root)?;
     let table = PrivateTable::new(alloc, &list)?;
     let numbers = PrivateNumbers::new(alloc, &table)?;
-    assert_eq!(rt; list.class_bodies.len(), 2);
-    assert_eq!(rt; numbers.number(0, 0), None);
-    assert_eq!(rt; numbers.number(1, 0), Some(1));
-    assert_eq!(rt; numbers.number(1, 1), None);
+    assert!(rt; list.class_bodies.len() == 2);
+    assert!(rt; numbers.number(0, 0).is_none());
+    assert!(rt; numbers.number(1, 0) == Some(1));
+    assert!(rt; numbers.number(1, 1).is_none());
     assert!(rt; numbers.new_class_name(0, 0).is_none(), "open");
     let name = numbers.new_class_name(1, 0).ok_or("no name")?;
-    assert_eq!(rt; name.as_str(), "t");
+    assert!(rt; name.as_str() == "t");
     Ok(())
 }

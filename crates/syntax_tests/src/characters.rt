@@ -50,9 +50,9 @@ fn line_terminators(rt: HostRuntime) {
         assert!(rt; !is_line_terminator(c));
     }
     let separator = [LS_OR_PS_FIRST_BYTE, LS_LAST_2_BYTES[0], LS_LAST_2_BYTES[1]];
-    assert_eq!(rt; separator.as_slice(), "\u{2028}".as_bytes());
+    assert!(rt; separator.as_slice() == "\u{2028}".as_bytes());
     let separator = [LS_OR_PS_FIRST_BYTE, PS_LAST_2_BYTES[0], PS_LAST_2_BYTES[1]];
-    assert_eq!(rt; separator.as_slice(), "\u{2029}".as_bytes());
+    assert!(rt; separator.as_slice() == "\u{2029}".as_bytes());
 }
 
 // Whether a character starts a name, and whether it is part of one.

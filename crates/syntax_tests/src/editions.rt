@@ -13,7 +13,7 @@ fn editions(rt: HostRuntime) -> Result<(), Fail> {
         (ESTarget::ES2026, "es2026"),
         (ESTarget::ESNext, "esnext"),
     ] {
-        assert_eq!(rt; format!(in rt.alloc(); "{target}")?.as_str(), word);
+        assert!(rt; format!(in rt.alloc(); "{target}")?.as_str() == word);
     }
     Ok(())
 }
@@ -43,7 +43,7 @@ fn words_for_editions(rt: HostRuntime) -> Result<(), Fail> {
         ("es2027", "Invalid target \"es2027\"."),
         ("", "Invalid target \"\"."),
     ] {
-        assert_eq!(rt; told(alloc, word)?.as_str(), expected);
+        assert!(rt; told(alloc, word)?.as_str() == expected);
     }
     Ok(())
 }

@@ -24,7 +24,7 @@ fn numbers_of_ids(rt: HostRuntime) {
         (ElementId::from_usize(3).index(), 3),
     ];
     for (number, expected) in rows {
-        assert_eq!(rt; number, expected);
+        assert!(rt; number == expected);
     }
     assert!(rt; NodeId::ROOT < NodeId::from_usize(7) && NodeId::default() == NodeId::DUMMY);
 }

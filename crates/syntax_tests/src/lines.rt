@@ -33,7 +33,7 @@ fn lines(rt: HostRuntime) -> Result<(), Fail> {
         ("\u{e9}\u{2027}\n\u{1d5d}\r", "[\u{e9}\u{2027}][\u{1d5d}]"),
         ("\r\n\n\r", "[][][]"),
     ] {
-        assert_eq!(rt; bracketed(alloc, text)?.as_str(), expected);
+        assert!(rt; bracketed(alloc, text)?.as_str() == expected);
     }
     Ok(())
 }

@@ -68,6 +68,7 @@ fn entries(rt: HostRuntime) -> Result<(), Fail> {
     assert!(rt; told(&record, 0) == Some((true, true, false)));
     assert!(rt; told(&record, 1) == Some((false, false, false)));
     assert!(rt; record.import_entries.len() == 2 && told(&record, 2).is_none());
+    assert!(rt; record.exported_bindings.get(0).is_none());
     Ok(())
 }
 

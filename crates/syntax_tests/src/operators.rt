@@ -26,18 +26,20 @@ fn is_assignment_of(operator: AssignmentOperator, listed: &str) -> bool {
     hold_as_listed(&classes, listed)
 }
 
-// The text of the operator that is applied before the assignment, if that one leads back.
+// The text of the operator that is applied before the assignment, or `"?"` for one that doesn't lead back.
 fn applied(operator: AssignmentOperator) -> &'static str {
     match operator.to_binary_operator() {
         Some(binary) if binary.to_assignment_operator() == Some(operator) => binary.as_str(),
-        _ => applied_in_short(operator),
+        Some(_) => "?",
+        None => applied_in_short(operator),
     }
 }
 
 fn applied_in_short(operator: AssignmentOperator) -> &'static str {
     match operator.to_logical_operator() {
         Some(logical) if logical.to_assignment_operator() == operator => logical.as_str(),
-        _ => "",
+        Some(_) => "?",
+        None => "",
     }
 }
 

@@ -29,13 +29,7 @@ fn text_of_span(alloc: Global, span: Span, ranges: bool) -> Result<String, Alloc
 #[test]
 fn texts_of_spans(rt: HostRuntime) -> Result<(), Fail> {
     let span = Span::new(4, 4_294_967_295);
-    assert_eq!(rt;
-        span,
-        Span {
-            start: 4,
-            end: 4_294_967_295
-        }
-    );
+    assert!(rt; span.start == 4 && span.end == 4_294_967_295);
     let rows = [
         (false, "{\"start\":4,\"end\":4294967295}"),
         (
@@ -45,7 +39,7 @@ fn texts_of_spans(rt: HostRuntime) -> Result<(), Fail> {
     ];
     for (ranges, want) in rows {
         let text = text_of_span(rt.alloc(), span, ranges)?;
-        assert_eq!(rt; text.as_str(), want);
+        assert!(rt; text.as_str() == want);
     }
     Ok(())
 }

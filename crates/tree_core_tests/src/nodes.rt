@@ -58,8 +58,8 @@ fn len_of_list(field: &Field) -> Option<usize> {
 #[test]
 fn a_field_is_copied(rt: HostRuntime) -> Result<(), Fail> {
     let node = named(rt.alloc(), Kind::Hashbang, "run")?;
-    let nodes = Field::List(NodeList::from_vec(vec![in rt.alloc(); Some(node)]?));
-    assert!(rt; len_of_list(&nodes.try_clone(rt.alloc())?) == Some(1));
+    let nodes = Field::List(NodeList::from_vec(vec![in rt.alloc(); None, Some(node)]?));
+    assert!(rt; len_of_list(&nodes.try_clone(rt.alloc())?) == Some(2));
     Ok(())
 }
 

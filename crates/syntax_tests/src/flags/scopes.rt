@@ -31,15 +31,15 @@ fn scope_calls(flags: ScopeFlags) -> [(bool, &'static str); 15] {
 #[test]
 fn scope_flags(rt: HostRuntime) {
     for flag in ScopeFlags::flags() {
-        assert_eq!(rt; wrong_call(&scope_calls(*flag.value()), flag.name()), None);
+        assert!(rt; wrong_call(&scope_calls(*flag.value()), flag.name()).is_none());
     }
 }
 
 #[test]
 fn strict_scopes(rt: HostRuntime) {
     let strict = ScopeFlags::TOP.with_strict_mode(true);
-    assert_eq!(rt; strict.bits(), 3);
-    assert_eq!(rt; ScopeFlags::TOP.with_strict_mode(false), ScopeFlags::TOP);
+    assert!(rt; strict.bits() == 3);
+    assert!(rt; ScopeFlags::TOP.with_strict_mode(false) == ScopeFlags::TOP);
     assert!(rt; ScopeFlags::empty().is_block() && !strict.is_block());
-    assert_eq!(rt; ScopeFlags::all().bits(), 0x1fff);
+    assert!(rt; ScopeFlags::all().bits() == 0x1fff);
 }

@@ -24,9 +24,9 @@ fn symbol_calls(flags: SymbolFlags) -> [(bool, &'static str); 8] {
 #[test]
 fn symbol_flags(rt: HostRuntime) {
     for flag in SymbolFlags::flags() {
-        assert_eq!(rt; wrong_call(&symbol_calls(*flag.value()), flag.name()), None);
+        assert!(rt; wrong_call(&symbol_calls(*flag.value()), flag.name()).is_none());
     }
-    assert_eq!(rt; SymbolFlags::all().bits(), 0x7ffff);
+    assert!(rt; SymbolFlags::all().bits() == 0x7ffff);
 }
 
 // Each call's answer of flags, and the names of the flags of one bit of which it answers yes.
@@ -82,8 +82,8 @@ fn symbol_flags_of_one_bit(rt: HostRuntime) {
     for flag in SymbolFlags::flags() {
         let flags = *flag.value();
         if flags.bits().count_ones() == 1 {
-            assert_eq!(rt; wrong_call(&type_calls(flags), flag.name()), None);
-            assert_eq!(rt; wrong_call(&value_calls(flags), flag.name()), None);
+            assert!(rt; wrong_call(&type_calls(flags), flag.name()).is_none());
+            assert!(rt; wrong_call(&value_calls(flags), flag.name()).is_none());
         }
     }
 }
