@@ -6,7 +6,7 @@ use std::test::Fail;
 use tree_nodes::literals::{LiteralCase, case_of, has_case, is_fixed, is_key, is_text};
 use tree_nodes::roles::{empty_at, first_text, flag_at, role_at, word_at};
 use tree_nodes::{
-    Declared, Field, FieldList, KINDS, Kind, Mode, Node, NodeList, Role, Row, TreeText, Words,
+    Declared, Field, FieldList, KINDS, Kind, Mode, Node, NodeList, Role, TreeText, Words,
     get_column, is_placed, own_name_at, row, row_named, word_list,
 };
 
@@ -74,9 +74,13 @@ fn a_name_is_found(rt: HostRuntime) -> Result<(), Fail> {
     Ok(())
 }
 
+fn number_of_kind(name: &str) -> Option<u8> {
+    Some(row_named(name)?.kind.number())
+}
+
 #[test]
 fn rows_are_found(rt: HostRuntime) {
-    assert!(rt; row_named("Super").map(|found: &Row| found.kind.number()) == Some(7));
+    assert!(rt; number_of_kind("Super") == Some(7));
     assert!(rt; row(Kind::Super).name == "Super" && row_named("super").is_none());
     assert!(rt; get_column(row(Kind::Super).columns, 0).is_none());
     assert!(rt; (KINDS.len(), word_list(Words::UpdateOperators).len()) == (73, 2));
