@@ -1,6 +1,6 @@
 //! A buffer for text that is being printed.
 
-ghost use Rattle.std.specs.Prelude.{◌≡◌, ◌+◌, ◌*◌, ◌^◌, ◌<◌, ◌≤◌, ◌↔◌, ◌∷◌, ◌++◌, [], encode_utf8, length, replicate, reverse, slice_get, IfOk, IsTrue, OnErr, OnOk, string_bytes};
+ghost use Rattle.std.specs.Prelude.{◌≡◌, ◌+◌, ◌*◌, ◌^◌, ◌<◌, ◌≤◌, ◌↔◌, ◌∷◌, ◌++◌, [], encode_utf8, length, replicate, reverse, slice_get, IfOk, IsOk, IsTrue, OnErr, OnOk, string_bytes};
 ghost use Rattle.std.specs.Str.{chars, IsAscii};
 ghost use Rattle.std.specs.String.{string_capacity, string_len};
 ghost use Rattle.oxc_data_structures.specs.declared.code_buffer.IndentChar.TheVariants.{Tab};
@@ -47,7 +47,8 @@ pub fn indent_chars_are_equal_exactly(a: IndentChar, b: IndentChar)
 
 /// Text that grows at its end: bytes that are UTF-8, with an indent character and an indent width.
 ///
-/// A print that is refused for want of memory leaves the buffer as it was.
+/// A print that is refused for want of memory leaves the buffer as it was. A print of one text for which
+/// there is room is never refused.
 #[derive(Drop)]
 pub struct CodeBuffer {
     /// What was printed so far.
@@ -188,6 +189,7 @@ impl CodeBuffer {
         requires { byte < 128 }
         ensures ok { OnOk result (Appends self.old self.new (byte ∷ [])) }
         ensures err { OnErr result (IsUnchanged self.old self.new) }
+        ensures succeeds { length self.old.bytes < self.old.capacity → IsOk result }
     {
         self.text.push(char::from(byte))
     }
@@ -196,6 +198,7 @@ impl CodeBuffer {
     pub fn print_char(&mut self, ch: char) -> Result<(), AllocError>
         ensures ok { OnOk result (Appends self.old self.new (encode_utf8 ch)) }
         ensures err { OnErr result (IsUnchanged self.old self.new) }
+        ensures succeeds { length self.old.bytes + length (encode_utf8 ch) ≤ self.old.capacity → IsOk result }
     {
         self.text.push(ch)
     }
@@ -204,6 +207,7 @@ impl CodeBuffer {
     pub fn print_str(&mut self, s: &str) -> Result<(), AllocError>
         ensures ok { OnOk result (Appends self.old self.new s.now) }
         ensures err { OnErr result (IsUnchanged self.old self.new) }
+        ensures succeeds { length self.old.bytes + length s.now ≤ self.old.capacity → IsOk result }
     {
         self.text.push_str(s)
     }
@@ -212,6 +216,7 @@ impl CodeBuffer {
     pub fn print_str_short(&mut self, s: &str) -> Result<(), AllocError>
         ensures ok { OnOk result (Appends self.old self.new s.now) }
         ensures err { OnErr result (IsUnchanged self.old self.new) }
+        ensures succeeds { length self.old.bytes + length s.now ≤ self.old.capacity → IsOk result }
     {
         self.text.push_str(s)
     }
@@ -221,6 +226,7 @@ impl CodeBuffer {
         requires { IsAscii bytes.now }
         ensures ok { OnOk result (Appends self.old self.new bytes.now) }
         ensures err { OnErr result (IsUnchanged self.old self.new) }
+        ensures succeeds { length self.old.bytes + length bytes.now ≤ self.old.capacity → IsOk result }
     {
         // ASCII is UTF-8.
         let text = unsafe { str::from_utf8_unchecked(bytes) };

@@ -2,8 +2,7 @@
 
 ghost use Rattle.std.specs.Prelude.{◌≡◌, Bool, OnErr, OnOk};
 ghost use Rattle.json_text.specs.Layout.{Layout, compact, deeper, is_compact, new_line, pretty, shallower, space, start_layout};
-ghost use Rattle.oxc_data_structures.specs.CodeBuffer.{Appends};
-ghost use Rattle.oxc_estree.specs.Refused.{IsPartlyPrinted};
+ghost use Rattle.oxc_data_structures.specs.CodeBuffer.{Appends, IsUnchanged};
 
 use oxc_data_structures::code_buffer::CodeBuffer;
 use std::alloc::AllocError;
@@ -12,7 +11,7 @@ use std::alloc::AllocError;
 ///
 /// A formatter is compact and appends nothing, or it knows how many structs and lists stand open
 /// and appends a line feed and two spaces for each of them. A call that is refused for want of
-/// memory has appended a first part of what it was to append, and has opened and closed no level.
+/// memory has appended nothing, and has opened and closed no level.
 pub trait Formatter {
     // Where white space stands, with the levels that stand open.
     ghost layout: { Self → Layout };
@@ -31,21 +30,21 @@ pub trait Formatter {
         ensures level { OnOk result (layout self.new ≡ deeper (layout self.old)) }
         ensures level_refused { OnErr result (layout self.new ≡ layout self.old) }
         ensures ok { OnOk result (Appends buffer.old buffer.new (new_line (deeper (layout self.old)))) }
-        ensures refused { OnErr result (IsPartlyPrinted buffer.old buffer.new (new_line (deeper (layout self.old)))) };
+        ensures refused { OnErr result (IsUnchanged buffer.old buffer.new) };
 
     /// Appends what stands before a later field or element.
     fn before_later_element(&mut self, buffer: &mut CodeBuffer) -> Result<(), AllocError>
         ensures level { OnOk result (layout self.new ≡ layout self.old) }
         ensures level_refused { OnErr result (layout self.new ≡ layout self.old) }
         ensures ok { OnOk result (Appends buffer.old buffer.new (new_line (layout self.old))) }
-        ensures refused { OnErr result (IsPartlyPrinted buffer.old buffer.new (new_line (layout self.old))) };
+        ensures refused { OnErr result (IsUnchanged buffer.old buffer.new) };
 
     /// Appends what stands between a field's colon and its value.
     fn before_field_value(&mut self, buffer: &mut CodeBuffer) -> Result<(), AllocError>
         ensures level { OnOk result (layout self.new ≡ layout self.old) }
         ensures level_refused { OnErr result (layout self.new ≡ layout self.old) }
         ensures ok { OnOk result (Appends buffer.old buffer.new (space (layout self.old))) }
-        ensures refused { OnErr result (IsPartlyPrinted buffer.old buffer.new (space (layout self.old))) };
+        ensures refused { OnErr result (IsUnchanged buffer.old buffer.new) };
 
     /// Closes a level, and appends what stands before the closing bracket. Where no level is open,
     /// none stays open.
@@ -53,7 +52,7 @@ pub trait Formatter {
         ensures level { OnOk result (layout self.new ≡ shallower (layout self.old)) }
         ensures level_refused { OnErr result (layout self.new ≡ layout self.old) }
         ensures ok { OnOk result (Appends buffer.old buffer.new (new_line (shallower (layout self.old)))) }
-        ensures refused { OnErr result (IsPartlyPrinted buffer.old buffer.new (new_line (shallower (layout self.old)))) };
+        ensures refused { OnErr result (IsUnchanged buffer.old buffer.new) };
 
     // A formatter is compact at every time, or at none.
     ghost compact_is: { (f : Self) → is_compact (layout f) ≡ IS_COMPACT };
@@ -98,7 +97,8 @@ impl Formatter for CompactFormatter {
 /// A formatter that puts each field and each element on a line of its own, two spaces further in for
 /// each struct and list that stands open, and a space behind each colon.
 ///
-/// An empty struct or list stays on its line, as `{}` or `[]`.
+/// An empty struct or list stays on its line, as `{}` or `[]`. Room for a whole line's start is made before
+/// its first byte, so a call that is refused leaves the buffer and the level as they were.
 #[derive(Drop)]
 pub struct PrettyFormatter {
     indent: usize,
@@ -143,11 +143,11 @@ impl Formatter for PrettyFormatter {
     }
 }
 
-// Two spaces a level, whatever the buffer's own indent is. It makes room first, so that want of memory
-// leaves the buffer as it was.
+// Two spaces a level, whatever the buffer's own indent is. It makes room first, so no print after that is
+// refused.
 fn print_new_line(buffer: &mut CodeBuffer, levels: usize) -> Result<(), AllocError>
     ensures ok { OnOk result (Appends buffer.old buffer.new (new_line (pretty levels))) }
-    ensures refused { OnErr result (IsPartlyPrinted buffer.old buffer.new (new_line (pretty levels))) }
+    ensures refused { OnErr result (IsUnchanged buffer.old buffer.new) }
 {
     let spaces = levels.checked_mul(2).ok_or(AllocError)?;
     buffer.reserve(spaces.checked_add(1).ok_or(AllocError)?)?;
