@@ -5,6 +5,7 @@ pub mod FirstValues
 -- places with their bindings
 pub mod BoundPlaces
 -- which bindings are kept
+pub mod SymbolsKept
 pub mod NameCauses
 pub mod ScopesFlagged
 pub mod KeptBindings

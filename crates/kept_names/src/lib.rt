@@ -12,7 +12,9 @@ mod roles;
 mod scope_flags;
 mod sets;
 mod sites;
+mod symbols;
 mod values;
 
 pub use groups::groups_of_places;
 pub use name_kept::names_kept;
+pub use symbols::collect_name_symbols;

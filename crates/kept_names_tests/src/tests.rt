@@ -1,6 +1,7 @@
 //! A function-name and the parameter that shadows it.
 
-use kept_names::{groups_of_places, names_kept};
+use bumpalo::Bump;
+use kept_names::{collect_name_symbols, groups_of_places, names_kept};
 use mangle_options::{MangleOptions, MangleOptionsKeepNames};
 use oxc_str::CompactStr;
 use scope_tables::ScopeTables;
@@ -89,5 +90,43 @@ fn names_of_functions_are_kept(rt: HostRuntime) -> Result<(), Fail> {
     let keep = MangleOptionsKeepNames::all_false();
     let kept = names_kept(alloc, keep, &tables)?;
     assert_eq!(rt; kept.as_slice(), [false, false, false].as_slice());
+    Ok(())
+}
+
+// How many symbols there are, and whether the first and the second keep their names.
+fn symbols_told(
+    alloc: Global,
+    keep: MangleOptionsKeepNames,
+) -> Result<(usize, bool, bool), AllocError> {
+    let root = sample(alloc)?;
+    let tables = ScopeTables::build(alloc, &root)?;
+    let kept = collect_name_symbols(alloc, keep, &tables)?;
+    Ok((kept.len(), kept.has_bit(0), kept.has_bit(1)))
+}
+
+#[test]
+fn symbols_that_keep_names_are_collected(rt: HostRuntime) -> Result<(), Fail> {
+    let told = symbols_told(rt.alloc(), MangleOptionsKeepNames::from(true))?;
+    assert!(rt; told == (2, true, false));
+    let told = symbols_told(rt.alloc(), MangleOptionsKeepNames::all_false())?;
+    assert!(rt; told == (2, false, false));
+    Ok(())
+}
+
+// Whether the symbols are collected in an arena that can hold so much.
+fn are_collected(alloc: Global, limit: Option<usize>) -> Result<bool, AllocError> {
+    let root = sample(alloc)?;
+    let tables = ScopeTables::build(alloc, &root)?;
+    let arena = Bump::new(alloc);
+    arena.set_allocation_limit(limit);
+    let kept = collect_name_symbols(&arena, MangleOptionsKeepNames::all_true(), &tables);
+    Ok(kept.is_ok())
+}
+
+#[test]
+fn symbols_are_collected_in_an_arena(rt: HostRuntime) -> Result<(), Fail> {
+    let alloc = rt.alloc();
+    assert!(rt; are_collected(alloc, None)?);
+    assert!(rt; !are_collected(alloc, Some(0))?);
     Ok(())
 }
