@@ -12,7 +12,8 @@ use Rattle.place_list.specs.declared.tables.PlaceEntry.{PlaceEntry}
 use Rattle.place_list.specs.declared.tables.PlaceList.{PlaceList}
 use Rattle.scope_rules.specs.PrivateNames.{declaring_class, private_names}
 use Rattle.tree_places.specs.Places.{Place}
-use Rattle.private_numbers.specs.NewNames.{changed_name, name_or, place_number}
+use Rattle.private_numbers.specs.NewNames.{changed_name, name_or}
+use Rattle.name_rules.specs.ChosenNames.{place_number}
 use Rattle.private_numbers.specs.Numbers.{class_number, classes_around}
 use Rattle.private_numbers.proofs.Declared.{Follow, declared_below, declared_number, number_is}
 use Rattle.private_numbers.proofs.Outward.{classes_follow, from_class}

@@ -2,13 +2,14 @@
 
 ghost use Rattle.std.specs.Prelude.{◌≡◌, ◌<◌, IfOk, IfSome, IsFalse, IsTrue, Some, length, option_map, slice_get};
 ghost use Rattle.class_tables.specs.PrivateTables.{IsWhole, list_in};
+ghost use Rattle.name_rules.specs.ChosenNames.{place_number};
 ghost use Rattle.name_rules.specs.PrivateNumbers.{new_private_name, open_names};
 ghost use Rattle.name_rules.specs.ShortNames.{short};
 ghost use Rattle.place_list.specs.Bounds.{IsKnown};
 ghost use Rattle.place_list.specs.TableViews.{list_view, place_in, places_in};
 ghost use Rattle.scope_rules.specs.PrivateNames.{is_among};
 ghost use Rattle.private_numbers.specs.Numbers.{class_number, classes_around};
-ghost use Rattle.private_numbers.specs.NewNames.{changed_name, name_or, place_number};
+ghost use Rattle.private_numbers.specs.NewNames.{changed_name, name_or};
 ghost use Rattle.private_numbers.specs.AllNumbers.{IsNumbered, numbers_at, table_in};
 
 use crate::class_numbers::{ClassNumbers, class_numbers};
@@ -76,8 +77,8 @@ impl<'n, 'l, 't> PrivateNumbers<'n, 'l, 't> {
         name_of(self.place_number(i))
     }
 
-    // The number of the i-th place, if it is a private name and has one.
-    fn place_number(&self, i: usize) -> Option<u32>
+    /// The number of the i-th place, if it is a private name that is declared in a class which isn't open.
+    pub fn place_number(&self, i: usize) -> Option<u32>
         requires numbered { IsNumbered self.now }
         requires index { i < length (list_in (table_in self.now)).places.items }
         ensures { IfSome (slice_get (places_in (list_in (table_in self.now))) i) (λ p. result ≡ place_number (places_in (list_in (table_in self.now))) p) }

@@ -1,7 +1,7 @@
 //! The bindings and the faults of a whole tree.
 
 ghost use Rattle.std.specs.Prelude.{◌≡◌, ◌<◌, IfOk, IfSome, Some, is_some, length, map, slice_get, take};
-ghost use Rattle.place_list.specs.TableViews.{places_in, scopes_in};
+ghost use Rattle.place_list.specs.TableViews.{places_in, scopes_in, withs_in};
 ghost use Rattle.scope_rules.specs.Bindings as rules;
 ghost use Rattle.scope_rules.specs.Bindings.{same_name};
 ghost use Rattle.scope_rules.specs.Evals.{contains};
@@ -33,6 +33,7 @@ impl<'t> ScopeTables<'t> {
     pub fn build(alloc: Global, root: &'t Node) -> Result<Self, AllocError>
         ensures places { IfOk result (λ t. places_in t.list ≡ spec.places (alone root.now)) }
         ensures scopes { IfOk result (λ t. scopes_in t.list ≡ spec.scopes (alone root.now)) }
+        ensures withs { IfOk result (λ t. withs_in t.list ≡ spec.withs (alone root.now)) }
         ensures tables { IfOk result (λ t. AreTables t) }
     {
         let list = list_places(alloc, root)?;

@@ -6,7 +6,7 @@ use Rattle.place_list.specs.TableViews.{place_in, places_in}
 use Rattle.scope_rules.specs.PrivateNames.{declaring_class, private_names}
 use Rattle.tree_places.specs.Places.{Place}
 use Rattle.private_numbers.specs.AllNumbers.{table_in}
-use Rattle.private_numbers.specs.NewNames.{place_number}
+use Rattle.name_rules.specs.ChosenNames.{place_number}
 use Rattle.private_numbers.proofs.Places.{declared_at, declares_below, if_there, not_declared, not_private, what_is_there}
 use Rattle.private_numbers.proofs.numbers.PrivateNumbers.place_number.Goals as goal
 

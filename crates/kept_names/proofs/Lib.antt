@@ -1,0 +1,13 @@
+-- loops over places: one that passes, a set, a map of first values
+pub mod AnyPassing
+pub mod MarkedSets
+pub mod FirstValues
+-- places with their bindings
+pub mod BoundPlaces
+-- which bindings are kept
+pub mod SymbolsKept
+pub mod NameCauses
+pub mod ScopesFlagged
+pub mod KeptBindings
+-- groups
+pub mod GroupsFound

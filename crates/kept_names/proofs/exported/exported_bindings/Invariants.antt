@@ -1,0 +1,10 @@
+use Rattle.std.specs.Prelude.{◌≡◌, ℕ, take}
+use Rattle.std.specs.List.{list_any}
+use Rattle.kept_names.specs.Marks.{exports}
+use Rattle.kept_names.specs.Sets.{has}
+use Rattle.kept_names.specs.Views.{bound_of}
+use Rattle.place_list.specs.declared.tables.PlaceList.{PlaceList}
+use Rattle.kept_names.proofs.exported.exported_bindings.Given as goal
+
+abbrev pub invariant-loop-place : goal.invariant-loop-place
+invariant-loop-place l = (p : PlaceList) (n : ℕ) → has l.exported n ≡ list_any (λ b. exports n (bound_of p b)) (take l.place-index l.places)

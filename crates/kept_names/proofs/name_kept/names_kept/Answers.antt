@@ -1,0 +1,23 @@
+use Rattle.std.specs.Prelude.{List, map}
+use Rattle.std.proofs.Common.{ap, subst, ◌∙◌}
+use Rattle.std.proofs.lemmas.Result.{IfOk-weaker}
+use Rattle.kept_names.specs.Keeping.{keeping}
+use Rattle.kept_names.specs.NamesKept.{KeepsNames, keeps_name}
+use Rattle.kept_names.specs.Views.{bounds_of}
+use Rattle.mangle_options.specs.declared.keep_names.MangleOptionsKeepNames.{MangleOptionsKeepNames}
+use Rattle.place_list.specs.TableViews.{places_in}
+use Rattle.scope_rules.specs.Bindings.{Bound, bound, same_name}
+use Rattle.tree_nodes.specs.Tree.{Text}
+use Rattle.kept_names.proofs.name_kept.names_kept.Goals as goal
+
+pub returns : goal.returns
+returns c =
+    let l = c.args.tables.now.list in
+    let bs : List (Bound Text) = bound same_name (places_in l) in
+    let names = c.in_ok-names.names in
+    IfOk-weaker c.kept_by_place.result _ _
+    (λ v h.
+    h l bs (subst (λ (xs : List (Bound Text)). KeepsNames xs names) (ap (bounds_of l) c.as_slice.ensures.value ∙ c.in_ok-places.ensures.are) (c.in_ok-names.ensures.names l))
+    ∙ ap (map (keeps_name (keeping names.keep) bs)) (ap (bounds_of l) c.as_slice-2.ensures.value ∙ c.in_ok-places.ensures.are)
+    ∙ ap (λ (k : MangleOptionsKeepNames). map (keeps_name (keeping k) bs) bs) c.in_ok-names.ensures.keep)
+    c.kept_by_place.ensures

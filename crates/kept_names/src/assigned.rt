@@ -1,0 +1,42 @@
+//! The bindings of which a reference is assigned a function or a class that takes its name from it.
+
+ghost use Rattle.std.specs.Prelude.{◌≡◌, ℕ, IfOk};
+ghost use Rattle.kept_names.specs.Keeping.{keeping};
+ghost use Rattle.kept_names.specs.Marks.{HasAssigned, assigns};
+ghost use Rattle.kept_names.specs.Views.{bound_of, bounds_of};
+ghost use Rattle.place_list.specs.declared.tables.PlaceList.{PlaceList};
+ghost use Rattle.scope_rules.specs.Bindings.{is_node};
+
+use crate::bound::BoundPlace;
+use crate::roles::value_kept;
+use crate::sets::put;
+use crate::sites::refers;
+use mangle_options::MangleOptionsKeepNames;
+use std::alloc::{AllocError, Global};
+use std::collections::BTreeSet;
+
+/// Those of these places. Err is want of memory.
+pub fn assigned_bindings(
+    alloc: Global,
+    keep: MangleOptionsKeepNames,
+    places: &[BoundPlace<'_>],
+) -> Result<BTreeSet<u32>, AllocError>
+    ensures { IfOk result (λ s. (l : PlaceList) → HasAssigned (keeping keep) (bounds_of l places.now) s) }
+{
+    let mut assigned = BTreeSet::new(alloc);
+    for place in places {
+        put(&mut assigned, assigned_binding(keep, place))?;
+    }
+    Ok(assigned)
+}
+
+// The binding of a reference that is assigned one.
+fn assigned_binding(keep: MangleOptionsKeepNames, place: &BoundPlace<'_>) -> Option<u32>
+    ensures { (l : PlaceList) (n : ℕ) → is_node result n ≡ assigns (keeping keep) n (bound_of l place.now) }
+{
+    if refers(&place.place) && value_kept(keep, place.place.setting.value) {
+        place.binding
+    } else {
+        None
+    }
+}
