@@ -1,8 +1,9 @@
 -- The names that must not be given, gathered one after another, and what a guard with them refuses.
 use Rattle.std.specs.Borrow.{Bor}
 use Rattle.std.specs.List.{list_any}
-use Rattle.std.specs.Prelude.{◌≡◌, ◌<◌, ◌≤◌, ℕ, zero, suc, ◌+◌, Bool, true, false, cond, ◌&&◌, ◌||◌, if◌then◌else◌, List, [], ◌∷◌, ◌++◌, length, map, take, get_or, slice_get, Option, Some}
+use Rattle.std.specs.Prelude.{◌≡◌, ◌<◌, ◌≤◌, ℕ, zero, suc, ◌+◌, Bool, true, false, cond, not, ◌&&◌, ◌||◌, if◌then◌else◌, List, [], ◌∷◌, ◌++◌, length, map, take, get_or, slice_get, Option, Some}
 use Rattle.std.proofs.Common.{refl, sym, ap, ◌∙◌, arith, append-nil, take_all}
+use Rattle.std.proofs.lemmas.Bool.{both_ways}
 use Rattle.std.proofs.lemmas.List.{length-take-le, map-append, take_more}
 use Rattle.std.proofs.lemmas.List.Folds.{list_any-append}
 use Rattle.list_laws.proofs.Tests.{none_some, some_one, tests_agree}
@@ -58,6 +59,15 @@ module _ (ns : List (Bor Text)) (i : ℕ) (old guard : List Text) (so_far : HasA
 
 -- ---- names that stay
 
+pub stays_where : (variable none some asked : Bool) → asked ≡ variable → asked ≡ true → some ≡ not none → none ≡ (variable && not some)
+stays_where true true some asked e f g = sym (ap not g)
+stays_where true false some asked e f g = sym (ap not g)
+stays_where false none some asked e f g = absurd (both_ways asked e f)
+
+pub changes_where : (variable some asked : Bool) → asked ≡ variable → asked ≡ false → asked ≡ (variable && not some)
+changes_where true some asked e f = absurd (both_ways asked f e)
+changes_where false some asked e f = f
+
 take_next : {X : Type 0} (xs : List X) (i : ℕ) (x : X) → slice_get xs i ≡ Some x → take (suc i) xs ≡ take i xs ++ x ∷ []
 take_next [] i x e = absurd (none_some x e)
 take_next (y ∷ ys) zero x e = ap (λ z. z ∷ []) (some_one y x e)
@@ -111,11 +121,16 @@ module _ (ps : List Place) (gs : List (Option ℕ)) (i : ℕ) (names : List (Bor
 
 -- ---- what a guard with the reserved names and those that stay refuses
 
-pub both_put : (reserved staying none first guard : List Text) → none ≡ [] → HasAll none reserved first → HasAll first staying guard → (x : Text) → is_among guard x ≡ (is_among staying x || is_among reserved x)
+pub both_put : (reserved staying rs ss none first guard : List Text) → rs ≡ reserved → ss ≡ staying → none ≡ [] → HasAll none rs first → HasAll first ss guard → (x : Text) → is_among guard x ≡ (is_among staying x || is_among reserved x)
 unfolding is_among
-both_put reserved staying none first guard e one two x =
+both_put reserved staying rs ss none first guard r s e one two x =
     two x
-    ∙ ap (λ (b : Bool). is_among staying x || b) (one x ∙ ap (λ (ns : List Text). is_among reserved x || is_among ns x) e ∙ or_nothing (is_among reserved x))
+    ∙ ap (λ (ns : List Text). is_among ns x || is_among first x) s
+    ∙ ap (λ (b : Bool). is_among staying x || b)
+    (one x
+    ∙ ap (λ (ns : List Text). is_among ns x || is_among none x) r
+    ∙ ap (λ (ns : List Text). is_among reserved x || is_among ns x) e
+    ∙ or_nothing (is_among reserved x))
   where
     or_nothing : (b : Bool) → (b || false) ≡ b
     or_nothing true = refl
