@@ -86,6 +86,11 @@ module _ (o : Options) (t : Parts) (l : PlaceList) (is : IsListOf l t) (groups :
         let a : number_of_slots (slots_of o t) ≤ length (places t) = slots_are_few o t in
         omega (arith, a, weights_long, ap (length {A = Place}) is.places, places_long l)
 
+    pub as_many_choices : (numbers : List (Option ℕ)) → numbers ≡ map (place_number (places_in l)) (places_in l) → length s.places.items ≡ length numbers
+    as_many_choices numbers ns =
+        ap (length {A = Option ℕ}) slots.places ∙ length-map (members o t) (λ (m : Member). slot_of (slots_of o t) m.group) ∙ as_many_members
+        ∙ sym (ap (length {A = Option ℕ}) ns ∙ length-map (places_in l) (place_number (places_in l)) ∙ places_long l)
+
     pub names_are : (free given : List Text) → free ≡ free_names o (members o t) (length s.weights.items) → given ≡ slot_names free s.weights.items → given ≡ names_of_slots o t
     unfolding names_of_slots
     names_are free given f g =

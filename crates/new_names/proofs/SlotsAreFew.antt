@@ -27,7 +27,7 @@ module _ (o : Options) (t : Parts) where
   slot_led p = number_or_none (slot_of (slots_of o t) (Some (node p)))
 
   led_by_place : (j : ℕ) → j < number_of_slots (slots_of o t) → list_any (eqb j) (map slot_led (places t)) ≡ true
-  unfolding slots slots_of
+  unfolding slots slots_of slot_led number_or_none
   led_by_place j h =
       let d : (d : Slotted) × In d (slots_of o t) × (d.slot ≡ j) = slot_used o t j h in
       let g : In d.0.group (groups_of o t) = subst (In d.0.group) (slotted_groups (members o t) [] (groups_of o t)) (in_map (λ (b : Slotted). b.group) (slots_of o t) d.0 d.1) in
