@@ -45,11 +45,12 @@ members_slotted o t = ap (map (λ (m : Member). slot_of (slots_of o t) m.group))
 
 -- ---- of a tree whose places these are, under these options, with these groups
 
-module _ (o : Options) (t : Parts) (l : PlaceList) (is : IsListOf l t) (groups : List (Option ℕ)) (found : groups ≡ map (λ m. m.group) (members_of o (withs_in l) (places_in l))) where
+module _ (o : Options) (t : Parts) (l : PlaceList) (is : IsListOf l t) (groups found : List (Option ℕ)) (same : groups ≡ found) (are : found ≡ map (λ m. m.group) (members_of o (withs_in l) (places_in l))) where
   groups_told : groups ≡ map (λ m. m.group) (members o t)
   unfolding members
   groups_told =
-      found
+      same
+      ∙ are
       ∙ ap (λ (ws : List Scope). map (λ (m : Member). m.group) (members_of o ws (places_in l))) is.withs
       ∙ ap (λ (ps : List Place). map (λ (m : Member). m.group) (members_of o (withs t) ps)) is.places
 
@@ -72,7 +73,7 @@ module _ (o : Options) (t : Parts) (l : PlaceList) (is : IsListOf l t) (groups :
         ∙ ap (λ (gs : List (Option ℕ)). is_among (staying_names (map (λ (m : Member). m.place) (members o t)) gs) x || is_among o.reserved x) groups_told)
 
     pub free_are : (free : List Text) (readable : Bool) (n : ℕ) → o.readable ≡ readable → length guard ≤ length o.reserved + length l.places.items → AreFreeWhereTaken guard readable n free → free ≡ free_names o (members o t) n
-    free_are free readable n r few are = are o (members o t) r (omega (arith, few, as_many_members)) refuses
+    free_are free readable n r few first = first o (members o t) r (omega (arith, few, as_many_members)) refuses
 
   module _ (s : Slots) (slots : AreSlots l s o t) where
     abbrev many : ℕ

@@ -1,6 +1,6 @@
 -- The names that are given are identifier names.
 use Rattle.std.specs.List.{AllByRecursion, list_all}
-use Rattle.std.specs.Prelude.{◌≡◌, ◌⊎◌, ◌<◌, ◌≤◌, ℕ, zero, suc, ◌+◌, ◌/◌, ◌%◌, Bool, true, false, ◌&&◌, nat_lt, List, [], ◌∷◌, ◌++◌, map, codes, IsTrue, String, string_bytes}
+use Rattle.std.specs.Prelude.{◌≡◌, ◌⊎◌, ◌<◌, ℕ, zero, suc, ◌+◌, ◌/◌, ◌%◌, Bool, true, false, ◌&&◌, nat_lt, List, [], ◌∷◌, ◌++◌, map, codes, IsTrue, String, string_bytes}
 use Rattle.std.proofs.Common.{refl, sym, ap, ◌∙◌, subst, arith, inl, inr, IsAscii}
 use Rattle.std.proofs.lemmas.Bool.{agree_below_at}
 use Rattle.std.proofs.lemmas.Str.{chars-IsAscii}
@@ -52,7 +52,12 @@ none_ascii : IsAscii []
 none_ascii i = omega arith
 
 slot_ascii : (cs : Text) → IsAscii cs → IsAscii (codes "slot_" ++ cs)
-slot_ascii cs a = ascii_more 115 _ (omega arith) (ascii_more 108 _ (omega arith) (ascii_more 111 _ (omega arith) (ascii_more 116 _ (omega arith) (ascii_more 95 cs (omega arith) a))))
+slot_ascii cs a =
+    ascii_more 115 (108 ∷ 111 ∷ 116 ∷ 95 ∷ cs) (omega arith)
+    (ascii_more 108 (111 ∷ 116 ∷ 95 ∷ cs) (omega arith)
+    (ascii_more 111 (116 ∷ 95 ∷ cs) (omega arith)
+    (ascii_more 116 (95 ∷ cs) (omega arith)
+    (ascii_more 95 cs (omega arith) a))))
 
 readable_identifier : (n : ℕ) → is_identifier_name (readable_name n) ≡ true
 unfolding is_identifier_name readable_name

@@ -4,7 +4,7 @@ use Rattle.std.specs.List.{list_any}
 use Rattle.std.specs.Prelude.{◌≡◌, ◌<◌, ◌≤◌, ℕ, zero, suc, ◌+◌, Bool, true, false, cond, not, ◌&&◌, ◌||◌, if◌then◌else◌, List, [], ◌∷◌, ◌++◌, length, map, take, get_or, slice_get, Option, Some}
 use Rattle.std.proofs.Common.{refl, sym, ap, ◌∙◌, arith, append-nil, take_all}
 use Rattle.std.proofs.lemmas.Bool.{both_ways}
-use Rattle.std.proofs.lemmas.List.{length-take-le, map-append, take_more}
+use Rattle.std.proofs.lemmas.List.{length-take-le, length_push, map-append, take_more}
 use Rattle.std.proofs.lemmas.List.Folds.{list_any-append}
 use Rattle.list_laws.proofs.Tests.{none_some, some_one, tests_agree}
 use Rattle.syntax_lex.specs.Keyword.{is_reserved_keyword}
@@ -58,6 +58,9 @@ module _ (ns : List (Bor Text)) (i : ℕ) (old guard : List Text) (so_far : HasA
   all_put h x = so_far x ∙ ap (λ (ms : List (Bor Text)). is_among (map (λ n. n.now) ms) x || is_among old x) (take_all i ns h)
 
 -- ---- names that stay
+
+pub one_longer : {X : Type 0} (old new : List X) (x : X) (i : ℕ) → new ≡ old ++ x ∷ [] → length old ≤ i → length new ≤ i + 1
+one_longer {X} old new x i e h = let l : length new ≡ length old + 1 = ap (length {A = X}) e ∙ length_push old x in omega (arith, l, h)
 
 pub stays_where : (variable none some asked : Bool) → asked ≡ variable → asked ≡ true → some ≡ not none → none ≡ (variable && not some)
 stays_where true true some asked e f g = sym (ap not g)

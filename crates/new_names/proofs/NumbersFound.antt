@@ -1,7 +1,6 @@
 -- Numbers of places, one place after another: their list, a limit above them, and the short names of all below a limit.
-use Rattle.std.specs.List.{AllByRecursion}
-use Rattle.std.specs.Prelude.{◌≡◌, ◌<◌, ◌≤◌, ℕ, zero, suc, ◌+◌, max, List, [], ◌∷◌, ◌++◌, length, map, take, get_or, slice_get, Option, Some, None, IfSome, String, string_bytes}
-use Rattle.std.proofs.Common.{refl, sym, ap, ◌∙◌, subst, arith, append_assoc, take_all}
+use Rattle.std.specs.Prelude.{◌≡◌, ◌<◌, ◌≤◌, ℕ, zero, suc, ◌+◌, List, [], ◌∷◌, ◌++◌, length, map, take, get_or, slice_get, Option, Some, None, IfSome, String, string_bytes}
+use Rattle.std.proofs.Common.{sym, ap, ◌∙◌, subst, arith, append_assoc, take_all}
 use Rattle.std.proofs.lemmas.List.{length-map, map-append, take_more}
 use Rattle.list_laws.proofs.AllOf.{AllOf_push, AllOf_weaken}
 use Rattle.name_rules.proofs.Ranks.{count_push}

@@ -1,4 +1,4 @@
-use Rattle.std.specs.Prelude.{List, ℕ, map}
+use Rattle.std.specs.Prelude.{List, map}
 use Rattle.std.proofs.Common.{ap, arith, take_all, ◌∙◌}
 use Rattle.class_tables.specs.PrivateTables.{list_in}
 use Rattle.name_rules.specs.ChosenNames.{place_number}

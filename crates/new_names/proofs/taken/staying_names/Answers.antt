@@ -1,8 +1,7 @@
 use Rattle.std.specs.Borrow.{Bor}
 use Rattle.std.specs.Prelude.{List, None, length, map}
 use Rattle.std.proofs.Common.{ap, arith, refl, sym, ◌∙◌}
-use Rattle.std.proofs.lemmas.List.{length_push}
-use Rattle.new_names.proofs.NamesTaken.{all_staying, one_changes, one_stays}
+use Rattle.new_names.proofs.NamesTaken.{all_staying, one_changes, one_longer, one_stays}
 use Rattle.new_names.proofs.NumbersFound.{places_long}
 use Rattle.place_list.specs.TableViews.{place_in, places_in}
 use Rattle.place_list.specs.Tables.{place_of}
@@ -25,7 +24,7 @@ loop-i-preserved c =
     elim c.if-keeps_name.branch [
       | then-keeps_name+in_ok-push w ↦ record {
         names = one_stays (places_in l) c.args.groups.now i c.loop-i.names.items long c.loop-i.invariant.names p None _ _ (omega (arith, c.loop-i-test.true)) c.place-place.ensures.stands (sym (c.keeps_name.ensures l) ∙ w.if-keeps_name.true) refl (ap (λ v. v.items) w.names-is ∙ w.in_ok-push.ensures.items);
-        few = omega (arith, ap (λ v. length v.items) w.names-is, ap length w.in_ok-push.ensures.items, length_push c.loop-i.names.items _, c.loop-i.invariant.few);
+        few = one_longer c.loop-i.names.items _ _ i (ap (λ v. v.items) w.names-is ∙ w.in_ok-push.ensures.items) c.loop-i.invariant.few;
       }
       | else-keeps_name w ↦ record {
         names = ap (λ v. map (λ (n : Bor Text). n.now) v.items) w.names-is ∙ one_changes (places_in l) c.args.groups.now i c.loop-i.names.items long c.loop-i.invariant.names p None (omega (arith, c.loop-i-test.true)) c.place-place.ensures.stands (sym (c.keeps_name.ensures l) ∙ w.if-keeps_name.false);
