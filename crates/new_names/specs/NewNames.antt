@@ -4,7 +4,7 @@ use Rattle.std.specs.Prelude.{◌≡◌, map, Some, IsTrue, string_bytes}
 use Rattle.name_rules.specs.ChosenNames.{AreChosen}
 use Rattle.name_rules.specs.Groups.{greatest_width, groups_of, members, width}
 use Rattle.name_rules.specs.Options.{Options}
-use Rattle.new_names.specs.declared.new_names.NewNames.{NewNames}
+use Rattle.new_names.specs.declared.naming.NewNames.{NewNames}
 use Rattle.place_list.specs.TableViews.{places_in, scope_at, scopes_in, withs_in}
 use Rattle.place_list.specs.declared.tables.PlaceList.{PlaceList}
 use Rattle.syntax_lex.specs.Identifier.{is_identifier_name}

@@ -2,8 +2,8 @@
 #![tactic(auto)]
 
 mod choices;
-mod new_names;
+mod naming;
 mod private;
 mod taken;
 
-pub use new_names::{NewNames, new_names};
+pub use naming::{NewNames, new_names};

@@ -43,9 +43,10 @@ pub(crate) fn limit(numbers: &[Option<u32>]) -> usize
 }
 
 // The limit that counts this number too, if there is one.
+#[tactic(auto, unfolding(crate::specs::Limits::limit_with))]
 fn limit_with(limit: usize, number: Option<u32>) -> usize
     requires { limit ≤ 2 ^ 32 }
-    ensures { result ≡ spec.limit_with limit number }
+    ensures limit { result ≡ spec.limit_with limit number }
     ensures low { result ≤ 2 ^ 32 }
 {
     match number {

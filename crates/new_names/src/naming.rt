@@ -62,7 +62,12 @@ pub fn new_names<A: Allocator + Copy>(
         return Err(AllocError);
     }
     push_short_names(alloc, &mut names, count as u32)?;
-    let choices = choices(alloc, found.places.as_slice(), numbers.as_slice(), slots as u32)?;
+    let choices = choices(
+        alloc,
+        found.places.as_slice(),
+        numbers.as_slice(),
+        slots as u32,
+    )?;
     Ok(NewNames {
         choices,
         names,

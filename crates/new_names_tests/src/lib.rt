@@ -1,0 +1,7 @@
+//! The call of `new_names` with ample memory, on trees that are built by hand.
+#![tactic(auto)]
+
+#[cfg(test)]
+mod tests;
+#[cfg(test)]
+mod trees;
