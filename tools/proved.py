@@ -45,7 +45,6 @@ HELPERS = {
     "tree_core": "is_too_large",
     "place_list": "same_number",
     "scope_tables": "Faults",
-    "one_scope": "is_one_scope keeps_all",
 }
 
 # ---- the sources

@@ -1,6 +1,5 @@
 -- What a run does to the program that it read.
-use Rattle.std.specs.Prelude.{◌≡◌, false, [], None, Option, Some, option_and_then, if◌then◌else◌, IsFalse, IsTrue}
-use Rattle.one_scope.specs.OneScope.{is_one_scope}
+use Rattle.std.specs.Prelude.{◌≡◌, Bool, false, [], None, Option, IsFalse, IsTrue}
 use Rattle.name_rules.specs.Mangled.{IsMangled}
 use Rattle.name_rules.specs.Options.{Options, renames_root}
 use Rattle.name_rules.specs.PrivateNumbers.{new_names}
@@ -14,13 +13,17 @@ use Rattle.scope_rules.specs.Bindings.{same_name}
 use Rattle.scope_rules.specs.Faults.{has_fault}
 use Rattle.mangle_tool.specs.Input.{program_in}
 
--- the tree that a value is or wraps, if all its nodes are of kinds that are mangled
+-- the tree that a value is or wraps
 abbrev pub tree_in : Data → Option Tree
-tree_in value = option_and_then (λ t. if is_one_scope (alone t) then Some t else None) (tree_of (json_of (program_in value)))
+tree_in value = tree_of (json_of (program_in value))
 
--- a run gives all bindings new names, those of a script's root aside, and keeps no name of a function or class for its own sake
+-- a run gives all bindings new names, those of the root if it may, and keeps no name of a function or class for its own sake
+abbrev pub options_with : (renames_root : Bool) → Options
+options_with root = record { top_level = root; keep_functions = false; keep_classes = false; reserved = []; readable = false }
+
+-- a script shares its root with others, so names there stay
 abbrev pub usual_options : Tree → Options
-usual_options t = record { top_level = renames_root None (alone t); keep_functions = false; keep_classes = false; reserved = []; readable = false }
+usual_options t = options_with (renames_root None (alone t))
 
 -- two declarations clash
 abbrev pub IsFaulty : Tree → Type 0

@@ -1,17 +1,23 @@
 //! A program under its new names.
 
-ghost use Rattle.std.specs.Prelude.{◌≡◌, IfErr, IfOk, false, true, map, not, nat_eq, string_bytes, ℕ};
-ghost use Rattle.one_scope.specs.Entries.{entries as entries_of};
-ghost use Rattle.one_scope.specs.Flat.{flat_slot_names, flat_slots, has_flat_fault};
-ghost use Rattle.one_scope.specs.OneScope.{is_one_scope};
-ghost use Rattle.tree_core.specs.Program.{IsProgram, source_type_at};
-ghost use Rattle.tree_nodes.specs.Tree.{alone};
+ghost use Rattle.std.specs.List.{AllByRecursion};
+ghost use Rattle.std.specs.Prelude.{◌≡◌, ◌≤◌, ◌^◌, IfErr, IfOk, IsTrue, length, map, not, nat_eq, string_bytes, ℕ};
 ghost use Rattle.mangle_tool.specs.Answer.{IsProgramCause};
-ghost use Rattle.mangle_tool.specs.Mangling.{IsMangling, usual_options};
+ghost use Rattle.mangle_tool.specs.Mangling.{IsMangling, IsSound, options_with, usual_options};
+ghost use Rattle.name_rules.specs.ChosenNames.{AreChosen};
+ghost use Rattle.new_names.specs.NewNames.{AreNewNames, IsList, IsListOf};
+ghost use Rattle.scope_tables.specs.WholeTree.{AreTables};
+ghost use Rattle.syntax_lex.specs.Identifier.{is_identifier_name};
+ghost use Rattle.tree_core.specs.Program.{IsProgram, source_type_at};
+ghost use Rattle.tree_nodes.specs.Tree.{Parts, alone};
 
 use crate::estree::MangleError;
-use one_scope::{MangleOptions, NewNames, has_fault, list_places, new_names};
-use std::alloc::Global;
+use class_tables::PrivateTable;
+use mangle_options::MangleOptions;
+use new_names::{NewNames, new_names};
+use private_numbers::PrivateNumbers;
+use scope_tables::ScopeTables;
+use std::alloc::{AllocError, Global};
 use tree_core::{Program, SourceType};
 use tree_rename::rename;
 
@@ -19,7 +25,6 @@ use tree_rename::rename;
 ///
 /// `BadScope` comes exactly where its scopes have a fault; `Memory` may come at any program.
 pub fn mangle_program(alloc: Global, program: Program) -> Result<Program, MangleError>
-    requires one { is_one_scope (alone program) ≡ true }
     ensures mangled { IfOk result (λ mangled. IsMangling program mangled) }
     ensures cause { IfErr result (λ e. IsProgramCause e program) }
 {
@@ -35,21 +40,38 @@ pub fn mangle_program(alloc: Global, program: Program) -> Result<Program, Mangle
 
 // The new names of the program's places.
 fn names_for(alloc: Global, program: &Program) -> Result<NewNames, MangleError>
-    requires one { is_one_scope (alone program.now) ≡ true }
-    ensures program { IfOk result (λ given. IsProgram program.now) }
-    ensures sound { IfOk result (λ given. has_flat_fault (entries_of (alone program.now)) ≡ false) }
-    ensures choices { IfOk result (λ given. given.choices.items
-        ≡ flat_slots (usual_options program.now) (entries_of (alone program.now))) }
-    ensures names { IfOk result (λ given. map string_bytes given.names.items
-        ≡ flat_slot_names (usual_options program.now) (entries_of (alone program.now))) }
+    ensures program { IfOk result (λ _. IsProgram program.now) }
+    ensures sound { IfOk result (λ _. IsSound program.now) }
+    ensures chosen { IfOk result (λ given. AreChosen (usual_options program.now) (alone program.now)
+        given.choices.items (map string_bytes given.names.items)) }
+    ensures identifiers { IfOk result (λ given.
+        AllByRecursion (λ s. IsTrue (is_identifier_name (string_bytes s))) given.names.items) }
     ensures cause { IfErr result (λ e. IsProgramCause e program.now) }
 {
-    let places = list_places(alloc, program.root())?;
-    if has_fault(alloc, places.as_slice())? {
+    let tables = ScopeTables::build(alloc, program.root())?;
+    if tables.has_fault() {
         return Err(MangleError::BadScope);
     }
-    let options = MangleOptions::new(alloc, renames_root(program.source_type()));
-    Ok(new_names(alloc, &options, places.as_slice())?)
+    let top_level = renames_root(program.source_type());
+    Ok(usual_names(alloc, top_level, &tables)?)
+}
+
+// The new names under the options that a run has.
+fn usual_names(
+    alloc: Global,
+    top_level: bool,
+    tables: &ScopeTables<'_>,
+) -> Result<NewNames, AllocError>
+    requires tables { AreTables tables.now }
+    requires list { IsList tables.now.list }
+    requires few { length tables.now.list.places.items ≤ 2 ^ 30 }
+    ensures { IfOk result (λ given. (t : Parts) → IsListOf tables.now.list t
+        → AreNewNames (options_with top_level) t tables.now.list given) }
+{
+    let private = PrivateTable::new(alloc, &tables.list)?;
+    let numbers = PrivateNumbers::new(alloc, &private)?;
+    let options = MangleOptions::new(alloc);
+    new_names(alloc, alloc, &options, top_level, tables, &numbers)
 }
 
 // Whether the bindings of the root get new names: a script shares its root with others.

@@ -11,23 +11,17 @@ ghost use Rattle.mangle_tool.specs.Input as spec;
 ghost use Rattle.mangle_tool.specs.Input.{program_in};
 ghost use Rattle.mangle_tool.specs.Mangling.{tree_in};
 
-use one_scope::is_one_scope;
 use serde_json::{Map, Value};
 use std::alloc::Global;
 use tree_core::{Program, ReadError, is_too_large, read_tree};
 
-// The program that a value is or wraps, if all its nodes are of kinds that are mangled.
+// The program that a value is or wraps. The limits are those of the whole value.
 pub(crate) fn taken_program(alloc: Global, value: &Value) -> Result<Program, ReadError>
     ensures ok { IfOk result (λ p. tree_in (view value.now) ≡ Some p) }
     ensures within { IfOk result (λ _. is_too_large (view value.now) 0 ≡ false) }
     ensures cause { IfErr result (λ e. IsCauseFor (read_refusal e) (view value.now)) }
 {
-    let program = read_program(alloc, value)?;
-    if is_one_scope(program.root()) {
-        Ok(program)
-    } else {
-        Err(ReadError::BadTree)
-    }
+    read_program(alloc, value)
 }
 
 // The tree of the program that a value is or wraps. The limits are those of the whole value.

@@ -1,5 +1,0 @@
-use Rattle.one_scope.proofs.FlatTrees as trees
-use Rattle.one_scope.proofs.flat_laws.flat_faults.Goals as goal
-
-pub returns : goal.returns
-returns c = trees.flat_faults
