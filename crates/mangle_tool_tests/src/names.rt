@@ -64,7 +64,7 @@ fn program(alloc: Global, source_type: &str, words: &str) -> Result<String, Allo
 }
 
 // The names in a printed tree, with a blank behind each.
-fn names_in(alloc: Global, text: &str) -> Result<String, AllocError> {
+pub(crate) fn names_in(alloc: Global, text: &str) -> Result<String, AllocError> {
     let mut names = String::new(alloc);
     for part in text.split("\"name\":\"").skip(1) {
         if let Some((name, _)) = part.split_once('"') {
