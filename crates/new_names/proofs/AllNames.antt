@@ -1,5 +1,5 @@
 -- What is found in turn is, all together, the new names of a tree's places.
-use Rattle.std.specs.Prelude.{◌≡◌, ◌≤◌, ℕ, ◌+◌, Bool, ◌||◌, List, ◌++◌, length, map, Option, Some, string_bytes}
+use Rattle.std.specs.Prelude.{◌≡◌, ◌^◌, ◌≤◌, ℕ, ◌+◌, Bool, ◌||◌, List, ◌++◌, length, map, Option, Some, string_bytes}
 use Rattle.std.proofs.Common.{sym, ap, ◌∙◌, subst, arith}
 use Rattle.std.proofs.lemmas.List.{length-map, map-id}
 use Rattle.std.proofs.lemmas.Simd.{map-map}
@@ -99,13 +99,16 @@ module _ (o : Options) (t : Parts) (l : PlaceList) (is : IsListOf l t) (groups f
         ∙ ap (λ (xs : List Text). slot_names xs s.weights.items) (f ∙ ap (free_names o (members o t)) weights_long)
         ∙ ap (slot_names (free_names o (members o t) many)) slots.weights
 
-    pub all_new : (n : NewNames) (given : List Text) (numbers : List (Option ℕ)) (limit : ℕ) → given ≡ names_of_slots o t → numbers ≡ map (place_number (places_in l)) (places_in l) → AreBelow limit numbers
+    pub all_new : (n : NewNames) (given : List Text) (numbers : List (Option ℕ)) (limit : ℕ) → limit ≤ 2 ^ 31 → given ≡ names_of_slots o t → numbers ≡ map (place_number (places_in l)) (places_in l) → AreBelow limit numbers
         → map string_bytes n.names.items ≡ given ++ map short (count_from limit 0) → n.slots ≡ length s.weights.items → n.choices.items ≡ choices_of n.slots s.places.items numbers → n.busiest ≡ s.busiest → AreNewNames o t l n
-    all_new n given numbers limit g ns below named k cs b = record {
+    all_new n given numbers limit low g ns below named k cs b = record {
       chosen =
           subst (λ (xs : List (Option ℕ)). AreChosen o t xs (map string_bytes n.names.items)) (sym choices_are)
           (subst (AreChosen o t (choices_of many (map (slot_in o t) (places t)) (map (place_number (places t)) (places t)))) (sym names_told)
           (chosen_names_are_new o t limit (subst (AreBelow limit) numbers_told below)));
+      limit = limit;
+      low = low;
+      names = names_told;
       identifiers = given_identifiers o t limit n.names.items names_told;
       slots = k ∙ weights_long ∙ slots_are_fewest o t;
       busiest = ap (λ (r : ℕ). width (members o t) (groups_of o t) (scope_at l (Some r))) b ∙ slots.busiest ∙ sym (k ∙ weights_long);

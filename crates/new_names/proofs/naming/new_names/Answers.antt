@@ -88,7 +88,7 @@ returns g c = λ t is.
     let free_told = free_are o t l is c.as_slice-2.result.now c.in_ok-groups.groups.items c.as_slice-2.ensures.value c.in_ok-groups.ensures c.in_ok-guard.guard c.in_ok-guard.ensures.names free c.args.options.now.debug c.len-slots.result refl c.in_ok-guard.ensures.few c.in_ok-free.ensures.free in
     let names_told = names_are o t l is gs groups c.as_slice.ensures.value c.in_ok-groups.ensures s slots free given (free_told ∙ ap (free_names o (members o t)) n) (c.in_ok-names.ensures.names ∙ ap (slot_names free) c.as_slice-3.ensures.value) in
     let numbers_told = subst (λ (k : PlaceList). numbers ≡ map (place_number (places_in k)) (places_in k)) c.requires.same c.in_ok-numbers.ensures in
-    all_new o t l is gs groups c.as_slice.ensures.value c.in_ok-groups.ensures s slots _ given numbers c.limit-count.result names_told numbers_told (subst (AreBelow c.limit-count.result) c.as_slice-4.ensures.value c.limit-count.ensures.below)
+    all_new o t l is gs groups c.as_slice.ensures.value c.in_ok-groups.ensures s slots _ given numbers c.limit-count.result (omega (arith, c.if-count-gt2147483648.false)) names_told numbers_told (subst (AreBelow c.limit-count.result) c.as_slice-4.ensures.value c.limit-count.ensures.below)
     c.in_ok-push_short_names.ensures n
     (c.in_ok-choices.ensures ∙ ap (λ (xs : List (Option ℕ)). choices_of c.len-slots.result xs c.as_slice-6.result.now) c.as_slice-5.ensures.value ∙ ap (choices_of c.len-slots.result s.places.items) c.as_slice-6.ensures.value)
     refl
