@@ -1,7 +1,7 @@
 //! A program under its new names.
 
 ghost use Rattle.std.specs.List.{AllByRecursion};
-ghost use Rattle.std.specs.Prelude.{◌≡◌, ◌≤◌, ◌^◌, IfErr, IfOk, IsTrue, length, map, not, nat_eq, string_bytes, ℕ};
+ghost use Rattle.std.specs.Prelude.{◌≡◌, ◌≤◌, ◌<◌, ◌^◌, IfErr, IfOk, IsTrue, length, map, not, nat_eq, string_bytes, ℕ};
 ghost use Rattle.mangle_tool.specs.Answer.{IsProgramCause};
 ghost use Rattle.mangle_tool.specs.Mangling.{IsMangling, IsSound, options_with, usual_options};
 ghost use Rattle.name_rules.specs.ChosenNames.{AreChosen};
@@ -46,6 +46,8 @@ fn names_for(alloc: Global, program: &Program) -> Result<NewNames, MangleError>
         given.choices.items (map string_bytes given.names.items)) }
     ensures identifiers { IfOk result (λ given.
         AllByRecursion (λ s. IsTrue (is_identifier_name (string_bytes s))) given.names.items) }
+    ensures short { IfOk result (λ given.
+        AllByRecursion (λ s. length (string_bytes s) < 2 ^ 32) given.names.items) }
     ensures cause { IfErr result (λ e. IsProgramCause e program.now) }
 {
     let tables = ScopeTables::build(alloc, program.root())?;
