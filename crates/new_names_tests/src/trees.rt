@@ -85,9 +85,6 @@ pub(crate) fn beside_unbound(alloc: Global) -> Result<Node, AllocError> {
 
 /// `let a; (class { #x; #y })`
 pub(crate) fn beside_class(alloc: Global) -> Result<Node, AllocError> {
-    let statements = vec![in alloc;
-        declaration(alloc, "a")?,
-        statement(alloc, class(alloc)?)?,
-    ]?;
+    let statements = vec![in alloc; declaration(alloc, "a")?, statement(alloc, class(alloc)?)?]?;
     program(alloc, statements)
 }

@@ -14,7 +14,6 @@ use Rattle.tree_rename.specs.Renamed.{has_name}
 use Rattle.tree_rename.proofs.OwnFirst.{with_own}
 use Rattle.tree_rename.proofs.RenamedNames.{place_kind}
 
-
 -- ---- a renaming hides no text but names
 
 longest_unmarked : (x : Parts) → longest_text (unmarked x) ≡ longest_text x
