@@ -5,3 +5,5 @@ pub mod WrappedWithin
 -- a program under its new names
 pub mod Mangles
 pub mod ShortTexts
+-- what is written of it
+pub mod Answers

@@ -4,10 +4,12 @@ use Rattle.json_text.specs.Layout.{compact}
 use Rattle.oxc_estree.specs.Envelope.{envelope}
 use Rattle.serde_json.specs.Data.{Data}
 use Rattle.tree_core.specs.Limits.{is_too_large}
-use Rattle.tree_nodes.specs.Tree.{Tree}
+use Rattle.tree_nodes.specs.Tree.{Tree, alone}
 use Rattle.tree_core.specs.Values.{meaning_of}
 use Rattle.mangle_tool.specs.Input.{IsNotJson, Parses}
-use Rattle.mangle_tool.specs.Mangling.{IsFaulty, IsMangling, IsSound, tree_in}
+use Rattle.mangle_tool.specs.Mangling.{IsFaulty, IsMangling, IsSound, tree_in, usual_options}
+use Rattle.mangle_tool.specs.Output.{IsOutput}
+use Rattle.program_laws.specs.Least.{IsLeast}
 use Rattle.tree_core.specs.declared.read.ReadError.{ReadError}
 use Rattle.tree_core.specs.declared.read.ReadError.TheVariants as refusal
 use Rattle.mangle_tool.specs.declared.estree.error.MangleError.{MangleError}
@@ -22,15 +24,16 @@ pub record IsValid (value : Data) : Type 0 where
   pub is_tree : tree_in value ≡ Some tree
   pub sound : IsSound tree
 
--- the value is valid, and the text is that of its tree mangled: the value of that tree in a compact layout beside the paths
--- of its BigInt and RegExp literals
+-- the value is valid, and the text reads as its tree mangled, under names of which none does better. The text is exactly the
+-- value of that tree in a compact layout beside the paths of its BigInt and RegExp literals
 pub record IsAnswerTo (value : Data) (text : List ℕ) : Type 0 where
   pub tree : Tree
   pub within : is_too_large value 0 ≡ false
   pub is_tree : tree_in value ≡ Some tree
-  pub mangled : Tree
-  pub mangles : IsMangling tree mangled
-  pub text_is : text ≡ envelope compact (meaning_of mangled)
+  pub output : IsOutput tree (usual_options tree) text
+  pub mangles : IsMangling tree output.output
+  pub least : IsLeast (alone tree) (usual_options tree) (alone output.output)
+  pub text_is : text ≡ envelope compact (meaning_of output.output)
 
 -- the value is within the limits, but its program is no tree
 pub record IsNoTree (value : Data) : Type 0 where

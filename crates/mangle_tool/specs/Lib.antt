@@ -4,6 +4,7 @@ pub mod Input
 pub mod Mangling
 pub mod MemorySink
 pub mod MemorySource
+pub mod Output
 pub mod ReaderSource
 pub mod Run
 pub mod Sink

@@ -32,8 +32,9 @@ IsFaulty t = IsTrue (has_fault same_name (places (alone t)))
 abbrev pub IsSound : Tree → Type 0
 IsSound t = IsFalse (has_fault same_name (places (alone t)))
 
--- u is the program that t becomes: t mangled, under the names that are given, a program again and without fault
+-- u is what the program t becomes: t mangled, under the names that are given, a program again and without fault
 pub record IsMangling (t u : Tree) : Type 0 where
+  pub of_program : IsProgram t
   pub sound : IsSound t
   pub mangled : IsMangled (alone t) (usual_options t) (alone u)
   pub names : names (alone u) ≡ new_names (usual_options t) (alone t)
