@@ -32,6 +32,7 @@ is_least t u m =
     programs_get_least_names t u (usual_options t) m.of_program (omega (arith, few)) has
 
 pub is_answer : (value : Data) (t u : Tree) (text : List ℕ) → is_too_large value 0 ≡ false → tree_in value ≡ Some t → IsMangling t u → text ≡ envelope compact (meaning_of u) → IsAnswerTo value text
+unfolding is_output
 is_answer value t u text within is_tree m e = record {
   tree = t;
   within = within;

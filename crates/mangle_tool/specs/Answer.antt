@@ -24,15 +24,19 @@ pub record IsValid (value : Data) : Type 0 where
   pub is_tree : tree_in value ≡ Some tree
   pub sound : IsSound tree
 
--- the value is valid, and the text reads as its tree mangled, under names of which none does better. The text is exactly the
--- value of that tree in a compact layout beside the paths of its BigInt and RegExp literals
+-- the value is valid, and the text is the answer to it
 pub record IsAnswerTo (value : Data) (text : List ℕ) : Type 0 where
+  -- the tree that was read
   pub tree : Tree
   pub within : is_too_large value 0 ≡ false
   pub is_tree : tree_in value ≡ Some tree
+  -- the text reads as that tree mangled, beside its fix paths
   pub output : IsOutput tree (usual_options tree) text
+  -- both are programs without fault, and the names are those that are given
   pub mangles : IsMangling tree output.output
+  -- no names do better
   pub least : IsLeast (alone tree) (usual_options tree) (alone output.output)
+  -- byte for byte, it is the value of the mangled tree in a compact layout on a line of its own, and the paths
   pub text_is : text ≡ envelope compact (meaning_of output.output)
 
 -- the value is within the limits, but its program is no tree

@@ -18,7 +18,7 @@ pub enum Status {
     TooLarge,
     /// The input is JSON, but no tree that the mangler takes.
     BadTree,
-    /// The scopes of the tree have a fault, as a name that is declared twice.
+    /// The scopes of the tree have a fault, as a name that two `let` declare in one scope.
     BadScope,
     /// The input has more bytes than are taken.
     InputTooLong,

@@ -17,7 +17,7 @@ pub enum MangleError {
     TooLarge,
     /// The input is JSON, but no tree that the mangler takes.
     BadTree,
-    /// The scopes of the tree have a fault, as a name that is declared twice.
+    /// The scopes of the tree have a fault, as a name that two `let` declare in one scope.
     BadScope,
     /// Memory ran out.
     Memory,
