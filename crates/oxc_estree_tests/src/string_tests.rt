@@ -37,6 +37,15 @@ fn texts_and_lists_of_them(rt: HostRuntime) -> Result<(), Fail> {
 }
 
 #[test]
+fn the_first_sixteen_characters(rt: HostRuntime) -> Result<(), Fail> {
+    let text = JsonStr("\0\x01\x02\x03\x04\x05\x06\x07\x08\t\n\x0b\x0c\r\x0e\x0f");
+    let want =
+        "\"\\u0000\\u0001\\u0002\\u0003\\u0004\\u0005\\u0006\\u0007\\b\\t\\n\\u000b\\f\\r\\u000e\\u000f\"";
+    assert!(rt; is_written(rt.alloc(), &text, want)?);
+    Ok(())
+}
+
+#[test]
 fn strings_of_code_points(rt: HostRuntime) -> Result<(), Fail> {
     let alloc = rt.alloc();
     let points = [0xd800, 0x08, 0x0a, 0x22, 0x5c, 0x1f];

@@ -8,9 +8,10 @@ ghost use Rattle.oxc_estree.specs.Out.{plain};
 
 use oxc_data_structures::code_buffer::CodeBuffer;
 use oxc_estree::{
-    CompactFixesSerializer, CompactFormatter, Config, ConfigFixes, ConfigNoFixes, ESTree,
-    ESTreeSerializer, ESTreeSpan, ESTreeStructSerializer, Fields, FlatStructSerializer, Formatter,
-    JsonSlice, JsonStr, PrettyFormatter, PrettySerializer, Serializer, StructSerializer,
+    CompactFixesSerializer, CompactFormatter, CompactSerializer, Config, ConfigFixes,
+    ConfigNoFixes, ESTree, ESTreeSerializer, ESTreeSpan, ESTreeStructSerializer, Fields,
+    FlatStructSerializer, Formatter, JsonSlice, JsonStr, PrettyFormatter, PrettySerializer,
+    Serializer, StructSerializer,
 };
 use std::alloc::{AllocError, Global};
 use std::test::Fail;
@@ -118,6 +119,25 @@ fn pretty_texts(rt: HostRuntime) -> Result<(), Fail> {
             "{\n  \"start\": 1,\n  \"end\": 5,\n  \"range\": [\n    1,\n    5\n  ],\n  \"raw\": \"x\"\n}"
         )?
     );
+    Ok(())
+}
+
+// The text of a struct of two fields.
+fn struct_of_two<T: ESTree>(alloc: Global, none: &T, one: &T) -> Result<String, AllocError> {
+    let mut serializer = CompactSerializer::new(alloc, false, false)?;
+    let mut state = ESTreeStructSerializer::new(&mut serializer)?;
+    state.serialize_field("none", none)?;
+    state.serialize_field("one", one)?;
+    state.end()?;
+    Ok(serializer.into_string())
+}
+
+#[test]
+fn lists_in_a_struct(rt: HostRuntime) -> Result<(), Fail> {
+    let none = JsonSlice(&[]);
+    let one = JsonSlice(&[JsonStr("one")]);
+    let text = struct_of_two(rt.alloc(), &none, &one)?;
+    assert!(rt; text.as_str() == "{\"none\":[],\"one\":[\"one\"]}");
     Ok(())
 }
 
