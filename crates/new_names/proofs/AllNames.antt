@@ -5,6 +5,7 @@ use Rattle.std.proofs.lemmas.List.{length-map, map-id}
 use Rattle.std.proofs.lemmas.Simd.{map-map}
 use Rattle.live_slots.specs.Slots.{AreGroupsOf, AreSlots}
 use Rattle.live_slots.specs.declared.slots.Slots.{Slots}
+use Rattle.kept_names.proofs.BoundPlaces.{many_places}
 use Rattle.name_rules.proofs.ChosenNames.{chosen_names_are_new}
 use Rattle.name_rules.proofs.CountFrom.{count_length}
 use Rattle.name_rules.proofs.GroupsInOrder.{slots_are_fewest}
@@ -19,7 +20,6 @@ use Rattle.name_rules.specs.SlotNames.{slot_in}
 use Rattle.name_rules.specs.Slots.{number_of_slots, slot_of, slots_of, weight}
 use Rattle.new_names.proofs.GivenIdentifiers.{given_identifiers}
 use Rattle.new_names.proofs.NamesTaken.{refuses_taken}
-use Rattle.new_names.proofs.NumbersFound.{places_long}
 use Rattle.new_names.proofs.SlotsAreFew.{slots_are_few}
 use Rattle.new_names.specs.NewNames.{AreNewNames, IsListOf}
 use Rattle.new_names.specs.Taken.{staying_names}
@@ -59,7 +59,7 @@ module _ (o : Options) (t : Parts) (l : PlaceList) (is : IsListOf l t) (groups f
 
   as_many_members : length (members o t) ≡ length l.places.items
   as_many_members =
-      sym (length-map (members o t) (λ (m : Member). m.place)) ∙ ap (length {A = Place}) (members_placed o t) ∙ sym (ap (length {A = Place}) is.places) ∙ places_long l
+      sym (length-map (members o t) (λ (m : Member). m.place)) ∙ ap (length {A = Place}) (members_placed o t) ∙ sym (ap (length {A = Place}) is.places) ∙ many_places l
 
   pub groups_long : length groups ≡ length l.places.items
   groups_long = ap (length {A = Option ℕ}) groups_told ∙ length-map (members o t) (λ (m : Member). m.group) ∙ as_many_members
@@ -85,12 +85,12 @@ module _ (o : Options) (t : Parts) (l : PlaceList) (is : IsListOf l t) (groups f
     pub few_slots : length s.weights.items ≤ length l.places.items
     few_slots =
         let a : number_of_slots (slots_of o t) ≤ length (places t) = slots_are_few o t in
-        omega (arith, a, weights_long, ap (length {A = Place}) is.places, places_long l)
+        omega (arith, a, weights_long, ap (length {A = Place}) is.places, many_places l)
 
     pub as_many_choices : (numbers : List (Option ℕ)) → numbers ≡ map (place_number (places_in l)) (places_in l) → length s.places.items ≡ length numbers
     as_many_choices numbers ns =
         ap (length {A = Option ℕ}) slots.places ∙ length-map (members o t) (λ (m : Member). slot_of (slots_of o t) m.group) ∙ as_many_members
-        ∙ sym (ap (length {A = Option ℕ}) ns ∙ length-map (places_in l) (place_number (places_in l)) ∙ places_long l)
+        ∙ sym (ap (length {A = Option ℕ}) ns ∙ length-map (places_in l) (place_number (places_in l)) ∙ many_places l)
 
     pub names_are : (free given : List Text) → free ≡ free_names o (members o t) (length s.weights.items) → given ≡ slot_names free s.weights.items → given ≡ names_of_slots o t
     unfolding names_of_slots

@@ -1,12 +1,13 @@
 -- The names that must not be given, gathered one after another, and what a guard with them refuses.
 use Rattle.std.specs.Borrow.{Bor}
 use Rattle.std.specs.List.{list_any}
-use Rattle.std.specs.Prelude.{◌≡◌, ◌<◌, ◌≤◌, ℕ, zero, suc, ◌+◌, Bool, true, false, cond, not, ◌&&◌, ◌||◌, if◌then◌else◌, List, [], ◌∷◌, ◌++◌, length, map, take, get_or, slice_get, Option, Some}
+use Rattle.std.specs.Prelude.{◌≡◌, ◌<◌, ◌≤◌, ℕ, ◌+◌, Bool, true, false, cond, not, ◌&&◌, ◌||◌, if◌then◌else◌, List, [], ◌∷◌, ◌++◌, length, map, take, get_or, slice_get, Option, Some}
 use Rattle.std.proofs.Common.{refl, sym, ap, ◌∙◌, arith, append-nil, take_all}
 use Rattle.std.proofs.lemmas.Bool.{both_ways}
 use Rattle.std.proofs.lemmas.List.{length-take-le, length_push, map-append, take_more}
 use Rattle.std.proofs.lemmas.List.Folds.{list_any-append}
-use Rattle.list_laws.proofs.Tests.{none_some, some_one, tests_agree}
+use Rattle.class_tables.proofs.Distinct.{same_flips}
+use Rattle.kept_names.proofs.BoundPlaces.{take_read}
 use Rattle.syntax_lex.specs.Keyword.{is_reserved_keyword}
 use Rattle.name_rules.specs.FreeNames.{is_taken, is_unchanged, is_variable}
 use Rattle.name_rules.specs.Groups.{Member}
@@ -14,15 +15,11 @@ use Rattle.name_rules.specs.Kept.{is_reserved, name_arguments}
 use Rattle.name_rules.specs.Options.{Options}
 use Rattle.new_names.specs.Taken.{HasAll, keeps_name, staying_names}
 use Rattle.oxc_mangler.specs.Guard.{HasAlso, is_never_given, is_refused}
-use Rattle.scope_rules.proofs.SameNames.{same_name_tells}
 use Rattle.scope_rules.specs.Bindings.{same_name}
 use Rattle.scope_rules.specs.Evals.{name_eval}
 use Rattle.scope_rules.specs.PrivateNames.{is_among}
 use Rattle.tree_nodes.specs.Tree.{Text}
 use Rattle.tree_places.specs.Places.{Place}
-
-same_flips : (x y : Text) → same_name x y ≡ same_name y x
-same_flips x y = tests_agree (same_name x y) (same_name y x) (λ e. (same_name_tells y x).1 (sym ((same_name_tells x y).0 e))) (λ e. (same_name_tells x y).1 (sym ((same_name_tells y x).0 e)))
 
 -- ---- names that are put into a guard
 
@@ -71,14 +68,6 @@ pub changes_where : (variable some asked : Bool) → asked ≡ variable → aske
 changes_where true some asked e f = absurd (both_ways asked f e)
 changes_where false some asked e f = f
 
-take_next : {X : Type 0} (xs : List X) (i : ℕ) (x : X) → slice_get xs i ≡ Some x → take (suc i) xs ≡ take i xs ++ x ∷ []
-take_next [] i x e = absurd (none_some x e)
-take_next (y ∷ ys) zero x e = ap (λ z. z ∷ []) (some_one y x e)
-take_next (y ∷ ys) (suc i) x e = ap (λ zs. y ∷ zs) (take_next ys i x e)
-
-take_there : {X : Type 0} (xs : List X) (i : ℕ) (x : X) → slice_get xs i ≡ Some x → take (i + 1) xs ≡ take i xs ++ x ∷ []
-take_there xs i x e = ap (λ (n : ℕ). take n xs) (let q : i + 1 ≡ suc i = omega arith in q) ∙ take_next xs i x e
-
 staying_push : (ps : List Place) (gs : List (Option ℕ)) (p : Place) (g : Option ℕ) → length ps ≡ length gs → staying_names (ps ++ p ∷ []) (gs ++ g ∷ []) ≡ staying_names ps gs ++ cond (keeps_name p.site g) (p.name ∷ []) []
 unfolding staying_names
 staying_push [] [] p g h = refl
@@ -97,7 +86,7 @@ staying_push (q ∷ ps) (f ∷ gs) p g h = go (keeps_name q.site f) (staying_pus
 module _ (ps : List Place) (gs : List (Option ℕ)) (i : ℕ) (names : List (Bor Text)) (long : length gs ≡ length ps) (so_far : map (λ n. n.now) names ≡ staying_names (take i ps) (take i gs)) where
   next : (p : Place) (d : Option ℕ) → i < length gs → slice_get ps i ≡ Some p → staying_names (take (i + 1) ps) (take (i + 1) gs) ≡ staying_names (take i ps) (take i gs) ++ cond (keeps_name p.site (get_or gs i d)) (p.name ∷ []) []
   next p d h at =
-      ap (λ (qs : List Place). staying_names qs (take (i + 1) gs)) (take_there ps i p at)
+      ap (λ (qs : List Place). staying_names qs (take (i + 1) gs)) (take_read ps i p at)
       ∙ ap (staying_names (take i ps ++ p ∷ [])) (take_more gs i d h)
       ∙ staying_push (take i ps) (take i gs) p (get_or gs i d) (omega (arith, length-take-le i ps (omega (arith, h, long)), length-take-le i gs (omega (arith, h))))
 

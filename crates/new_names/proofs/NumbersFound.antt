@@ -1,16 +1,13 @@
 -- Numbers of places, one place after another: their list, a limit above them, and the short names of all below a limit.
 use Rattle.std.specs.Prelude.{◌≡◌, ◌<◌, ◌≤◌, ℕ, zero, suc, ◌+◌, List, [], ◌∷◌, ◌++◌, length, map, take, get_or, slice_get, Option, Some, None, IfSome, String, string_bytes}
 use Rattle.std.proofs.Common.{sym, ap, ◌∙◌, subst, arith, append_assoc, take_all}
-use Rattle.std.proofs.lemmas.List.{length-map, map-append, take_more}
+use Rattle.std.proofs.lemmas.List.{map-append, take_more}
 use Rattle.list_laws.proofs.AllOf.{AllOf_push, AllOf_weaken}
 use Rattle.name_rules.proofs.Ranks.{count_push}
 use Rattle.name_rules.specs.ChosenNames.{AreBelow}
 use Rattle.name_rules.specs.GivenNames.{count_from}
 use Rattle.name_rules.specs.ShortNames.{short}
 use Rattle.new_names.specs.Limits.{limit_with}
-use Rattle.place_list.specs.TableViews.{entry_view, lists_in, places_in}
-use Rattle.place_list.specs.Tables.{place_of}
-use Rattle.place_list.specs.declared.tables.PlaceList.{PlaceList}
 use Rattle.tree_nodes.specs.Tree.{Text}
 
 -- ---- lists under a map
@@ -24,9 +21,6 @@ pub one_more : {X Y : Type 0} (f : X → Y) (xs : List X) (i : ℕ) (y : Y) (ys 
 one_more {X} {Y} f xs i y ys new h so_far e put =
     put ∙ ap (λ (zs : List Y). zs ++ y ∷ []) so_far ∙ sym (map_next f xs i y h e)
     ∙ ap (λ (n : ℕ). map f (take n xs)) (let q : suc i ≡ i + 1 = omega arith in q)
-
-pub places_long : (l : PlaceList) → length (places_in l) ≡ length l.places.items
-places_long l = length-map (map entry_view l.places.items) (place_of (lists_in l)) ∙ length-map l.places.items entry_view
 
 -- ---- a limit above numbers
 

@@ -1,8 +1,8 @@
 use Rattle.std.specs.Borrow.{Bor}
 use Rattle.std.specs.Prelude.{List, None, length, map}
 use Rattle.std.proofs.Common.{ap, arith, refl, sym, ◌∙◌}
+use Rattle.kept_names.proofs.BoundPlaces.{many_places}
 use Rattle.new_names.proofs.NamesTaken.{all_staying, one_changes, one_longer, one_stays}
-use Rattle.new_names.proofs.NumbersFound.{places_long}
 use Rattle.place_list.specs.TableViews.{place_in, places_in}
 use Rattle.place_list.specs.Tables.{place_of}
 use Rattle.new_names.specs.Taken.{staying_names}
@@ -20,7 +20,7 @@ loop-i-preserved c =
     let l = c.args.list.now in
     let p = place_in l c.place-place.result in
     let i = c.loop-i.i in
-    let long = c.requires.long ∙ sym (places_long l) in
+    let long = c.requires.long ∙ sym (many_places l) in
     elim c.if-keeps_name.branch [
       | then-keeps_name+in_ok-push w ↦ record {
         names = one_stays (places_in l) c.args.groups.now i c.loop-i.names.items long c.loop-i.invariant.names p None _ _ (omega (arith, c.loop-i-test.true)) c.place-place.ensures.stands (sym (c.keeps_name.ensures l) ∙ w.if-keeps_name.true) refl (ap (λ v. v.items) w.names-is ∙ w.in_ok-push.ensures.items);
@@ -35,4 +35,4 @@ loop-i-preserved c =
 pub returns-clause-names : goal.returns-clause-names
 returns-clause-names c =
     let l = c.args.list.now in
-    all_staying (places_in l) c.args.groups.now c.loop-i.i c.loop-i.names.items (c.requires.long ∙ sym (places_long l)) c.loop-i.invariant.names (omega (arith, c.loop-i-test.false))
+    all_staying (places_in l) c.args.groups.now c.loop-i.i c.loop-i.names.items (c.requires.long ∙ sym (many_places l)) c.loop-i.invariant.names (omega (arith, c.loop-i-test.false))
