@@ -97,10 +97,10 @@ fn private_names_are_found(rt: HostRuntime) -> Result<(), Fail> {
     for i in 0..10 {
         let (name, binding, class, index) = places[i];
         assert!(rt; list.places[i].name == name);
-        assert!(rt; table.private_binding(i) == binding, "binding of {}", name);
-        assert!(rt; table.declaring_class(i) == class, "class of {}", name);
-        assert!(rt; table.name_index(i) == index, "index of {}", name);
-        assert!(rt; table.is_undeclared(i) == (name == "z"), "{}", name);
+        assert!(rt; table.private_binding(i) == binding, "binding of {i}");
+        assert!(rt; table.declaring_class(i) == class, "class of {i}");
+        assert!(rt; table.name_index(i) == index, "index of {i}");
+        assert!(rt; table.is_undeclared(i) == (name == "z"), "{i}");
     }
     assert!(rt; table.has_undeclared(), "undeclared");
     Ok(())

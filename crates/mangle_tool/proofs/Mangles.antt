@@ -1,6 +1,6 @@
 -- The program that is renamed by its new names is the mangled one.
 use Rattle.std.specs.Prelude.{◌≡◌, ◌<◌, ◌≤◌, ℕ, suc, ◌+◌, ◌^◌, Bool, true, false, not, ◌||◌, nat_eq, List, [], ◌∷◌, ◌++◌, map, length, Option, None, if◌then◌else◌}
-use Rattle.std.proofs.Common.{refl, ap, ◌∙◌, arith}
+use Rattle.std.proofs.Common.{refl, ap, ◌∙◌, subst, arith}
 use Rattle.std.proofs.lemmas.Bool.{or_parts}
 use Rattle.std.proofs.lemmas.List.{length-append, length-map}
 use Rattle.mangle_options.specs.Settings.{options_in, reserved_in}
@@ -9,20 +9,22 @@ use Rattle.mangle_tool.specs.Mangling.{IsMangling, IsSound, options_with, usual_
 use Rattle.name_rules.proofs.Mangling as mangling
 use Rattle.name_rules.specs.ChosenNames.{AreChosen}
 use Rattle.name_rules.specs.MangledLaws.{HasNewNames}
-use Rattle.name_rules.specs.Options.{renames_root}
-use Rattle.new_names.specs.NewNames.{IsListOf}
-use Rattle.place_list.specs.TableViews.{entry_view, lists_in}
+use Rattle.name_rules.specs.Options.{Options, renames_root}
+use Rattle.new_names.specs.NewNames.{AreNewNames, IsListOf}
+use Rattle.new_names.specs.declared.naming.NewNames.{NewNames}
+use Rattle.place_list.specs.TableViews.{entry_view, lists_in, places_in, scopes_in, withs_in}
 use Rattle.place_list.specs.Tables.{place_of}
 use Rattle.place_list.specs.declared.tables.PlaceList.{PlaceList}
 use Rattle.program_laws.proofs.Programs.{programs_are_rooted}
 use Rattle.scope_rules.specs.Bindings.{bound, same_name}
 use Rattle.scope_rules.specs.Faults.{has_crossing, has_fault, has_reach, has_redeclaration, has_sloppy_function, has_undeclared}
+use Rattle.tree_core.proofs.PathTexts.{programs_are_small}
 use Rattle.tree_core.specs.Program.{IsProgram}
 use Rattle.tree_nodes.specs.NodeCount.{nodes_in}
 use Rattle.tree_nodes.specs.Table.{row}
 use Rattle.tree_nodes.specs.Tree.{Parts, Text, Tree, alone, atom, child, done, many, part, text_of, word_of}
 use Rattle.tree_places.specs.Chosen.{chosen}
-use Rattle.tree_places.specs.Places.{Place, Site, is_place, named_by, names, places, sites}
+use Rattle.tree_places.specs.Places.{Place, Site, is_place, named_by, names, places, scopes, sites, withs}
 use Rattle.tree_places.specs.Renaming.{IsRenamed}
 
 -- no more names than nodes
@@ -63,7 +65,7 @@ few_places t program l is =
     let b : length (map entry_view l.places.items) ≡ length l.places.items = length-map l.places.items entry_view in
     let c : length (map (place_of (lists_in l)) (map entry_view l.places.items)) ≡ length (places (alone t)) = ap length is.places in
     let d : length (places (alone t)) ≤ nodes_in (alone t) = places_most (alone t) in
-    let e : nodes_in (alone t) < 2 ^ 30 = program.1 in
+    let e : nodes_in (alone t) < 2 ^ 30 = programs_are_small t program in
     omega (arith, a, b, c, d, e)
 
 -- with no reserved names they are few with these too
@@ -84,6 +86,13 @@ options_told o root a b c d =
 pub root_told : (t : Tree) (root : Bool) → root ≡ not (nat_eq (word_of (part t.fields 1)) 0) → options_with root ≡ usual_options t
 unfolding renames_root
 root_told t root h = ap options_with h
+
+-- so its new names are those that a run asks for
+pub usual_new : (t : Tree) (root : Bool) (l : PlaceList) (n : NewNames) → root ≡ not (nat_eq (word_of (part t.fields 1)) 0)
+    → places_in l ≡ places (alone t) → scopes_in l ≡ scopes (alone t) → withs_in l ≡ withs (alone t)
+    → ((x : Parts) → IsListOf l x → AreNewNames (options_with root) x l n) → AreNewNames (usual_options t) (alone t) l n
+usual_new t root l n told p s w new =
+    subst (λ (o : Options). AreNewNames o (alone t) l n) (root_told t root told) (new (alone t) (record { places = p; scopes = s; withs = w }))
 
 -- where there is no fault no private name is undeclared
 all_declared : (ps : List Place) → has_fault same_name ps ≡ false → has_undeclared same_name ps ≡ false

@@ -127,7 +127,7 @@ fn private_names_are_numbered(rt: HostRuntime) -> Result<(), Fail> {
         let (name, wanted) = places[i];
         assert!(rt; list.places[i].name == name);
         let new_name = numbers.new_name(i);
-        assert!(rt; is_wanted(new_name, wanted), "{}", name);
+        assert!(rt; is_wanted(new_name, wanted), "{i}");
     }
     Ok(())
 }
@@ -152,7 +152,7 @@ fn kept_names_are_avoided(rt: HostRuntime) -> Result<(), Fail> {
         let (name, wanted) = places[i];
         assert!(rt; list.places[i].name == name);
         let new_name = numbers.new_name(i);
-        assert!(rt; is_wanted(new_name, wanted), "{}", name);
+        assert!(rt; is_wanted(new_name, wanted), "{i}");
     }
     Ok(())
 }

@@ -66,9 +66,12 @@ fn assignment_operators(rt: HostRuntime) {
     ] {
         assert!(rt;
             operator.as_str() == text && is_assignment_of(operator, classes),
-            "{text}"
+            "text and class"
         );
-        assert!(rt; text.strip_suffix('=') == Some(applied(operator)), "{text}");
+        assert!(rt;
+            text.strip_suffix('=') == Some(applied(operator)),
+            "what it applies"
+        );
     }
 }
 
@@ -118,11 +121,11 @@ fn binary_operators(rt: HostRuntime) {
     ] {
         assert!(rt;
             operator.as_str() == text && is_binary_of(operator, classes),
-            "{text}"
+            "text and classes"
         );
         assert!(rt;
             operator.lower_precedence() < operator.precedence(),
-            "{text}"
+            "precedence"
         );
     }
 }
