@@ -17,7 +17,7 @@ use Rattle.mangle_tool.specs.Input.{program_in}
 abbrev pub tree_in : Data → Option Tree
 tree_in value = tree_of (json_of (program_in value))
 
--- a run gives all bindings new names, those of the root if it may, and keeps no name of a function or class for its own sake
+-- a run gives new names to all bindings that need not keep theirs, those of the root if it may, and keeps no name of a function or class for its own sake
 abbrev pub options_with : (renames_root : Bool) → Options
 options_with root = record { top_level = root; keep_functions = false; keep_classes = false; reserved = []; readable = false }
 
@@ -25,7 +25,7 @@ options_with root = record { top_level = root; keep_functions = false; keep_clas
 abbrev pub usual_options : Tree → Options
 usual_options t = options_with (renames_root None (alone t))
 
--- two declarations clash
+-- the scopes of the tree have a fault
 abbrev pub IsFaulty : Tree → Type 0
 IsFaulty t = IsTrue (has_fault same_name (places (alone t)))
 
