@@ -1,5 +1,5 @@
 -- What is written of a program that is mangled, and what an error says of the input that it was read from.
-use Rattle.std.proofs.Common.{◌≡◌, ℕ, ◌+◌, ◌<◌, ◌^◌, false, List, Some, length, sym, subst, arith}
+use Rattle.std.proofs.Common.{◌≡◌, ℕ, ◌+◌, ◌<◌, ◌^◌, false, List, Some, length, sym, subst}
 use Rattle.json_text.specs.Grammar.{Reads}
 use Rattle.json_text.specs.Layout.{Layout}
 use Rattle.name_rules.specs.MangledLaws.{HasNewNames}
@@ -65,7 +65,7 @@ answers_agree a b value text options reserved layout x = record {
   within = subst (λ (n : ℕ). is_too_large value n ≡ false) reserved x.within;
   is_tree = x.is_tree;
   answer = subst (λ (l : Layout). IsTreeAnswer (b.options x.tree) l x.tree text) layout
-  (subst (λ (o : Options). IsTreeAnswer o a.layout x.tree text) (options x.tree) x.answer);
+      (subst (λ (o : Options). IsTreeAnswer o a.layout x.tree text) (options x.tree) x.answer);
 }
 
 pub same_answer : (a b : Asked) (input text : List ℕ) → ((t : Tree) → a.options t ≡ b.options t) → a.reserved ≡ b.reserved → a.layout ≡ b.layout

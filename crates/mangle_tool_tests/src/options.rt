@@ -18,11 +18,7 @@ const LETTERS: &str =
     "e t n r i a o s c l u d f p m h g _ v y b x S C w T E D O k A j M N P F I L R z B V H U W G K q J Y X Z Q";
 
 // The names in the answer to a program under these options.
-fn names_under(
-    alloc: Global,
-    options: &MangleOptions,
-    input: &str,
-) -> Result<String, MangleError> {
+fn names_under(alloc: Global, options: &MangleOptions, input: &str) -> Result<String, MangleError> {
     let text = mangle_estree(alloc, input.as_bytes(), options, Layout::Compact)?;
     Ok(names_in(alloc, text.as_str())?)
 }

@@ -1,4 +1,3 @@
-use Rattle.std.proofs.Common.{string_bytes}
 use Rattle.mangle_tool.proofs.Answers.{is_tree_answer}
 use Rattle.mangle_tool.proofs.Mangles.{few_asked}
 use Rattle.mangle_tool.specs.Asked.{layout_of}

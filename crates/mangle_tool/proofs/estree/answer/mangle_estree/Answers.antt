@@ -1,4 +1,4 @@
-use Rattle.std.proofs.Common.{◌≡◌, ℕ, length, subst}
+use Rattle.std.proofs.Common.{ℕ, length, subst}
 use Rattle.std.proofs.lemmas.Result.{IfErr-weaker, IfOk-weaker}
 use Rattle.mangle_options.specs.Settings.{reserved_in}
 use Rattle.mangle_tool.proofs.Answers.{answer_to_input, cause_of_program}
