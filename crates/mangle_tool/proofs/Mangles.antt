@@ -1,11 +1,11 @@
 -- The program that is renamed by its new names is the mangled one.
-use Rattle.std.specs.Prelude.{◌≡◌, ◌<◌, ◌≤◌, ℕ, suc, ◌+◌, ◌^◌, Bool, true, false, not, ◌||◌, nat_eq, List, [], ◌∷◌, ◌++◌, map, length, Option, None, if◌then◌else◌}
+use Rattle.std.specs.Prelude.{◌≡◌, ◌<◌, ◌≤◌, ℕ, suc, ◌+◌, ◌^◌, Bool, true, false, not, ◌||◌, nat_eq, List, [], ◌∷◌, ◌++◌, map, length, Option, Some, None, unwrap_or, if◌then◌else◌}
 use Rattle.std.proofs.Common.{refl, ap, ◌∙◌, subst, arith}
 use Rattle.std.proofs.lemmas.Bool.{or_parts}
 use Rattle.std.proofs.lemmas.List.{length-append, length-map}
 use Rattle.mangle_options.specs.Settings.{options_in, reserved_in}
 use Rattle.mangle_options.specs.declared.options.MangleOptions.{MangleOptions}
-use Rattle.mangle_tool.specs.Mangling.{IsMangling, IsSound, options_with, usual_options}
+use Rattle.mangle_tool.specs.Mangling.{IsMangling, IsSound, options_for, options_with, usual_options}
 use Rattle.name_rules.proofs.Mangling as mangling
 use Rattle.name_rules.specs.ChosenNames.{AreChosen}
 use Rattle.name_rules.specs.MangledLaws.{HasNewNames}
@@ -18,9 +18,8 @@ use Rattle.place_list.specs.declared.tables.PlaceList.{PlaceList}
 use Rattle.program_laws.proofs.Programs.{programs_are_rooted}
 use Rattle.scope_rules.specs.Bindings.{bound, same_name}
 use Rattle.scope_rules.specs.Faults.{has_crossing, has_fault, has_reach, has_redeclaration, has_sloppy_function, has_undeclared}
-use Rattle.tree_core.proofs.PathTexts.{programs_are_small}
 use Rattle.tree_core.specs.Program.{IsProgram}
-use Rattle.tree_nodes.specs.NodeCount.{nodes_in}
+use Rattle.tree_nodes.specs.NodeCount.{node_count, nodes_in}
 use Rattle.tree_nodes.specs.Table.{row}
 use Rattle.tree_nodes.specs.Tree.{Parts, Text, Tree, alone, atom, child, done, many, part, text_of, word_of}
 use Rattle.tree_places.specs.Chosen.{chosen}
@@ -58,19 +57,20 @@ places_most t =
     let b : length (names t) ≤ nodes_in t = names_most t in
     omega (arith, a, b)
 
--- the places in a list of a program's are few
-pub few_places : (t : Tree) → IsProgram t → (l : PlaceList) → IsListOf l (alone t) → length l.places.items ≤ 2 ^ 30
-few_places t program l is =
+-- the places in a list of a program's are few, with the reserved names too
+pub few_places : (t : Tree) (reserved : ℕ) → node_count t + reserved < 2 ^ 30 → (l : PlaceList) → IsListOf l (alone t) → reserved + length l.places.items ≤ 2 ^ 30
+few_places t reserved few l is =
     let a : length (map (place_of (lists_in l)) (map entry_view l.places.items)) ≡ length (map entry_view l.places.items) = length-map (map entry_view l.places.items) (place_of (lists_in l)) in
     let b : length (map entry_view l.places.items) ≡ length l.places.items = length-map l.places.items entry_view in
     let c : length (map (place_of (lists_in l)) (map entry_view l.places.items)) ≡ length (places (alone t)) = ap length is.places in
     let d : length (places (alone t)) ≤ nodes_in (alone t) = places_most (alone t) in
-    let e : nodes_in (alone t) < 2 ^ 30 = programs_are_small t program in
+    let e : nodes_in (alone t) + reserved < 2 ^ 30 = omega (arith, few) in
     omega (arith, a, b, c, d, e)
 
--- with no reserved names they are few with these too
-pub few_with : (reserved : List Text) (n : ℕ) → reserved ≡ [] → n ≤ 2 ^ 30 → length reserved + n ≤ 2 ^ 30
-few_with rs n e h = let none : length rs ≡ 0 = ap length e in omega (arith, none, h)
+-- the names that are reserved for a tree are those of the options
+pub few_asked : (o : MangleOptions) (t : Tree) → node_count t + length (reserved_in o) < 2 ^ 30 → node_count t + length (options_for o t).reserved < 2 ^ 30
+unfolding options_in
+few_asked o t h = h
 
 -- options by their settings
 pub options_told : (o : MangleOptions) (root : Bool) → o.keep_names.function ≡ false → o.keep_names.class ≡ false → reserved_in o ≡ [] → o.debug ≡ false
@@ -82,17 +82,23 @@ options_told o root a b c d =
     ∙ ap (λ x. record { top_level = root; keep_functions = false; keep_classes = false; reserved = x; readable = o.debug }) c
     ∙ ap (λ x. record { top_level = root; keep_functions = false; keep_classes = false; reserved = []; readable = x }) d
 
--- the root of a program is renamed by its source type
-pub root_told : (t : Tree) (root : Bool) → root ≡ not (nat_eq (word_of (part t.fields 1)) 0) → options_with root ≡ usual_options t
-unfolding renames_root
-root_told t root h = ap options_with h
+-- the default options ask of each tree what a run asks
+pub usual_told : (o : MangleOptions) → o.top_level ≡ None → o.keep_names.function ≡ false → o.keep_names.class ≡ false → reserved_in o ≡ [] → o.debug ≡ false
+    → (t : Tree) → options_for o t ≡ usual_options t
+usual_told o top a b c d t = options_told o (renames_root o.top_level (alone t)) a b c d ∙ ap (λ (asked : Option Bool). options_with (renames_root asked (alone t))) top
 
--- so its new names are those that a run asks for
-pub usual_new : (t : Tree) (root : Bool) (l : PlaceList) (n : NewNames) → root ≡ not (nat_eq (word_of (part t.fields 1)) 0)
+-- the root of a program is renamed as asked, else by its source type
+root_told : (asked : Option Bool) (t : Tree) → unwrap_or asked (not (nat_eq (word_of (part t.fields 1)) 0)) ≡ renames_root asked (alone t)
+unfolding renames_root
+root_told None t = refl
+root_told (Some b) t = refl
+
+-- so its new names are those that are asked for
+pub new_told : (o : MangleOptions) (t : Tree) (root : Bool) (l : PlaceList) (n : NewNames) → root ≡ unwrap_or o.top_level (not (nat_eq (word_of (part t.fields 1)) 0))
     → places_in l ≡ places (alone t) → scopes_in l ≡ scopes (alone t) → withs_in l ≡ withs (alone t)
-    → ((x : Parts) → IsListOf l x → AreNewNames (options_with root) x l n) → AreNewNames (usual_options t) (alone t) l n
-usual_new t root l n told p s w new =
-    subst (λ (o : Options). AreNewNames o (alone t) l n) (root_told t root told) (new (alone t) (record { places = p; scopes = s; withs = w }))
+    → ((x : Parts) → IsListOf l x → AreNewNames (options_in o root) x l n) → AreNewNames (options_for o t) (alone t) l n
+new_told o t root l n told p s w new =
+    subst (λ (asked : Options). AreNewNames asked (alone t) l n) (ap (options_in o) (told ∙ root_told o.top_level t)) (new (alone t) (record { places = p; scopes = s; withs = w }))
 
 -- where there is no fault no private name is undeclared
 all_declared : (ps : List Place) → has_fault same_name ps ≡ false → has_undeclared same_name ps ≡ false
@@ -102,15 +108,15 @@ all_declared ps sound =
     (or_parts (has_redeclaration same_name ps || has_crossing same_name ps || has_sloppy_function ps || has_undeclared same_name ps) (has_reach (bound same_name ps)) sound).0).1
 
 -- a tree under these names is what a sound program becomes
-pub mangles : (t u : Tree) (cs : List (Option ℕ)) (given : List Text) → IsProgram t → IsSound t → AreChosen (usual_options t) (alone t) cs given → IsRenamed (alone t) (alone u) → IsProgram u
-    → names (alone u) ≡ chosen given cs (names (alone t)) → IsMangling t u
-mangles t u cs given program sound new renamed again named =
-    let has : HasNewNames (usual_options t) (alone t) (alone u) = record { rooted = programs_are_rooted t program; renamed = renamed; names = named ∙ new.chosen } in
+pub mangles : (o : Options) (t u : Tree) (cs : List (Option ℕ)) (given : List Text) → IsProgram t → IsSound t → AreChosen o (alone t) cs given → IsRenamed (alone t) (alone u) → IsProgram u
+    → names (alone u) ≡ chosen given cs (names (alone t)) → IsMangling o t u
+mangles o t u cs given program sound new renamed again named =
+    let has : HasNewNames o (alone t) (alone u) = record { rooted = programs_are_rooted t program; renamed = renamed; names = named ∙ new.chosen } in
     record {
       of_program = program;
       sound = sound;
-      mangled = mangling.is_mangled (usual_options t) (alone t) (alone u) has (all_declared (places (alone t)) sound);
+      mangled = mangling.is_mangled o (alone t) (alone u) has (all_declared (places (alone t)) sound);
       names = named ∙ new.chosen;
       program = again;
-      sound_again = mangling.is_sound (usual_options t) (alone t) (alone u) has sound;
+      sound_again = mangling.is_sound o (alone t) (alone u) has sound;
     }

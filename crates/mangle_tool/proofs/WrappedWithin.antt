@@ -47,21 +47,21 @@ found_within key (member k e ms) d h = found_at_within (slice_cmp nat_cmp key k)
 
 -- ---- a node that is wrapped
 
-within_object : (ms : Members) (node : Data) → IsWithin node ms → is_too_large (object ms) 0 ≡ false → is_too_large node 0 ≡ false
+within_object : (ms : Members) (node : Data) (more : ℕ) → IsWithin node ms → is_too_large (object ms) more ≡ false → is_too_large node more ≡ false
 unfolding is_too_large
-within_object ms node w h =
-    let both = or_parts (nat_le (2 ^ 30) (objects_in_members ms + 1 + 0)) (has_long_member ms) h in
-    let few : nat_le (2 ^ 30) (objects_in node + 0) ≡ false = (let whole = both.0 in let less = w.objects in grind (arith, nat_tests, whole, less)) in
+within_object ms node more w h =
+    let both = or_parts (nat_le (2 ^ 30) (objects_in_members ms + 1 + more)) (has_long_member ms) h in
+    let few : nat_le (2 ^ 30) (objects_in node + more) ≡ false = (let whole = both.0 in let less = w.objects in grind (arith, nat_tests, whole, less)) in
     rw few (w.short both.1)
 
-pub wrapped_within : (d node : Data) → wrapped_program d ≡ Some node → is_too_large d 0 ≡ false → is_too_large node 0 ≡ false
-wrapped_within null node h whole = none_some node h
-wrapped_within (boolean b) node h whole = none_some node h
-wrapped_within (number n) node h whole = none_some node h
-wrapped_within (string s) node h whole = none_some node h
-wrapped_within (array ds) node h whole = none_some node h
-wrapped_within (object ms) node h whole =
-    within_object ms node (found_within (codes "node") ms node (if_some (is_envelope ms) (get_member (codes "node") ms) node h).1) whole
+pub wrapped_within : (d node : Data) (more : ℕ) → wrapped_program d ≡ Some node → is_too_large d more ≡ false → is_too_large node more ≡ false
+wrapped_within null node more h whole = none_some node h
+wrapped_within (boolean b) node more h whole = none_some node h
+wrapped_within (number n) node more h whole = none_some node h
+wrapped_within (string s) node more h whole = none_some node h
+wrapped_within (array ds) node more h whole = none_some node h
+wrapped_within (object ms) node more h whole =
+    within_object ms node more (found_within (codes "node") ms node (if_some (is_envelope ms) (get_member (codes "node") ms) node h).1) whole
 
 -- ---- the members of an envelope
 

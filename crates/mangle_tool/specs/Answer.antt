@@ -1,13 +1,15 @@
--- What comes of an input: the answer, or why there is none.
+-- What comes of an input: the answer, or why there is none. `reserved` is how many names are reserved.
 use Rattle.std.specs.Prelude.{◌≡◌, ℕ, true, false, List, Some, None, codes}
-use Rattle.json_text.specs.Layout.{compact}
+use Rattle.json_text.specs.Layout.{Layout}
+use Rattle.name_rules.specs.Options.{Options}
 use Rattle.oxc_estree.specs.Envelope.{envelope}
 use Rattle.serde_json.specs.Data.{Data}
 use Rattle.tree_core.specs.Limits.{is_too_large}
 use Rattle.tree_nodes.specs.Tree.{Tree, alone}
 use Rattle.tree_core.specs.Values.{meaning_of}
+use Rattle.mangle_tool.specs.Asked.{Asked}
 use Rattle.mangle_tool.specs.Input.{IsNotJson, Parses}
-use Rattle.mangle_tool.specs.Mangling.{IsFaulty, IsMangling, IsSound, tree_in, usual_options}
+use Rattle.mangle_tool.specs.Mangling.{IsFaulty, IsMangling, IsSound, tree_in}
 use Rattle.mangle_tool.specs.Output.{IsOutput}
 use Rattle.program_laws.specs.Least.{IsLeast}
 use Rattle.tree_core.specs.declared.read.ReadError.{ReadError}
@@ -18,46 +20,50 @@ use Rattle.mangle_tool.specs.declared.status.Status.{Status}
 use Rattle.mangle_tool.specs.declared.status.Status.TheVariants as status
 
 -- the value is within the limits, and its program is a tree without fault
-pub record IsValid (value : Data) : Type 0 where
+pub record IsValid (reserved : ℕ) (value : Data) : Type 0 where
   pub tree : Tree
-  pub within : is_too_large value 0 ≡ false
+  pub within : is_too_large value reserved ≡ false
   pub is_tree : tree_in value ≡ Some tree
   pub sound : IsSound tree
 
--- the value is valid, and the text is the answer to it
-pub record IsAnswerTo (value : Data) (text : List ℕ) : Type 0 where
+-- the text is the answer to a tree, under these options and in this layout
+pub record IsTreeAnswer (o : Options) (l : Layout) (tree : Tree) (text : List ℕ) : Type 0 where
+  -- the text reads as that tree mangled, beside its fix paths
+  pub output : IsOutput tree o text
+  -- both are programs without fault, and the names are those that are given
+  pub mangles : IsMangling o tree output.output
+  -- no names do better
+  pub least : IsLeast (alone tree) o (alone output.output)
+  -- byte for byte, it is the value of the mangled tree in the layout on lines of its own, and the paths
+  pub text_is : text ≡ envelope l (meaning_of output.output)
+
+-- the value is valid, and the text is the answer to it, as it is asked for
+pub record IsAnswerTo (a : Asked) (value : Data) (text : List ℕ) : Type 0 where
   -- the tree that was read
   pub tree : Tree
-  pub within : is_too_large value 0 ≡ false
+  pub within : is_too_large value a.reserved ≡ false
   pub is_tree : tree_in value ≡ Some tree
-  -- the text reads as that tree mangled, beside its fix paths
-  pub output : IsOutput tree (usual_options tree) text
-  -- both are programs without fault, and the names are those that are given
-  pub mangles : IsMangling tree output.output
-  -- no names do better
-  pub least : IsLeast (alone tree) (usual_options tree) (alone output.output)
-  -- byte for byte, it is the value of the mangled tree in a compact layout on a line of its own, and the paths
-  pub text_is : text ≡ envelope compact (meaning_of output.output)
+  pub answer : IsTreeAnswer (a.options tree) a.layout tree text
 
 -- the value is within the limits, but its program is no tree
-pub record IsNoTree (value : Data) : Type 0 where
-  pub within : is_too_large value 0 ≡ false
+pub record IsNoTree (reserved : ℕ) (value : Data) : Type 0 where
+  pub within : is_too_large value reserved ≡ false
   pub no_tree : tree_in value ≡ None
 
 -- the value is within the limits, and its program is a tree with a fault
-pub record HasBadScope (value : Data) : Type 0 where
+pub record HasBadScope (reserved : ℕ) (value : Data) : Type 0 where
   pub tree : Tree
-  pub within : is_too_large value 0 ≡ false
+  pub within : is_too_large value reserved ≡ false
   pub is_tree : tree_in value ≡ Some tree
   pub faulty : IsFaulty tree
 
 -- what an error says of a value; memory may run out at any value
-abbrev pub IsCauseFor : MangleError → Data → Type 0
-IsCauseFor NotJson value = ⊥
-IsCauseFor TooLarge value = is_too_large value 0 ≡ true
-IsCauseFor BadTree value = IsNoTree value
-IsCauseFor BadScope value = HasBadScope value
-IsCauseFor Memory value = Unit {0}
+abbrev pub IsCauseFor : (reserved : ℕ) → MangleError → Data → Type 0
+IsCauseFor reserved NotJson value = ⊥
+IsCauseFor reserved TooLarge value = is_too_large value reserved ≡ true
+IsCauseFor reserved BadTree value = IsNoTree reserved value
+IsCauseFor reserved BadScope value = HasBadScope reserved value
+IsCauseFor reserved Memory value = Unit {0}
 
 -- what an error says of a program that was read
 abbrev pub IsProgramCause : MangleError → Tree → Type 0
@@ -65,31 +71,38 @@ IsProgramCause BadScope t = IsFaulty t
 IsProgramCause Memory t = Unit {0}
 IsProgramCause _ t = ⊥
 
--- the input is JSON whose value is valid
+-- the input is JSON within the limits, and its program is this tree
+pub record IsReadFrom (reserved : ℕ) (input : List ℕ) (tree : Tree) : Type 0 where
+  pub value : Data
+  pub parses : Parses input value
+  pub within : is_too_large value reserved ≡ false
+  pub is_tree : tree_in value ≡ Some tree
+
+-- the input is JSON whose value is valid, with no reserved names
 pub record IsValidInput (input : List ℕ) : Type 0 where
   pub value : Data
   pub parses : Parses input value
-  pub valid : IsValid value
+  pub valid : IsValid 0 value
 
--- the input is JSON, and the text is the answer to its value
-pub record IsAnswer (input text : List ℕ) : Type 0 where
+-- the input is JSON, and the text is the answer to its value, as it is asked for
+pub record IsAnswer (a : Asked) (input text : List ℕ) : Type 0 where
   pub value : Data
   pub parses : Parses input value
-  pub answer : IsAnswerTo value text
+  pub answer : IsAnswerTo a value text
 
 -- the input is JSON, and the error's cause lies in its value
-pub record IsOfValue (e : MangleError) (input : List ℕ) : Type 0 where
+pub record IsOfValue (reserved : ℕ) (e : MangleError) (input : List ℕ) : Type 0 where
   pub value : Data
   pub parses : Parses input value
-  pub cause : IsCauseFor e value
+  pub cause : IsCauseFor reserved e value
 
 -- what an error says of the input
-abbrev pub IsCauseOf : MangleError → List ℕ → Type 0
-IsCauseOf NotJson input = IsNotJson input
-IsCauseOf TooLarge input = IsOfValue TooLarge input
-IsCauseOf BadTree input = IsOfValue BadTree input
-IsCauseOf BadScope input = IsOfValue BadScope input
-IsCauseOf Memory input = Unit {0}
+abbrev pub IsCauseOf : (reserved : ℕ) → MangleError → List ℕ → Type 0
+IsCauseOf reserved NotJson input = IsNotJson input
+IsCauseOf reserved TooLarge input = IsOfValue reserved TooLarge input
+IsCauseOf reserved BadTree input = IsOfValue reserved BadTree input
+IsCauseOf reserved BadScope input = IsOfValue reserved BadScope input
+IsCauseOf reserved Memory input = Unit {0}
 
 -- the error of a value that can't be read
 abbrev pub read_refusal : ReadError → MangleError

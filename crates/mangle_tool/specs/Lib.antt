@@ -1,4 +1,5 @@
 pub mod Answer
+pub mod Asked
 pub mod Failures
 pub mod Input
 pub mod Mangling

@@ -1,5 +1,7 @@
--- What a run does to the program that it read.
+-- What a call does to the program that it read.
 use Rattle.std.specs.Prelude.{◌≡◌, Bool, false, [], None, Option, IsFalse, IsTrue}
+use Rattle.mangle_options.specs.Settings.{options_in}
+use Rattle.mangle_options.specs.declared.options.MangleOptions.{MangleOptions}
 use Rattle.name_rules.specs.Mangled.{IsMangled}
 use Rattle.name_rules.specs.Options.{Options, renames_root}
 use Rattle.name_rules.specs.PrivateNumbers.{new_names}
@@ -17,6 +19,10 @@ use Rattle.mangle_tool.specs.Input.{program_in}
 abbrev pub tree_in : Data → Option Tree
 tree_in value = tree_of (json_of (program_in value))
 
+-- what the options of a call ask of a tree
+abbrev pub options_for : MangleOptions → Tree → Options
+options_for o t = options_in o (renames_root o.top_level (alone t))
+
 -- a run gives new names to all bindings that need not keep theirs, those of the root if it may, and keeps no name of a function or class for its own sake
 abbrev pub options_with : (renames_root : Bool) → Options
 options_with root = record { top_level = root; keep_functions = false; keep_classes = false; reserved = []; readable = false }
@@ -32,11 +38,11 @@ IsFaulty t = IsTrue (has_fault same_name (places (alone t)))
 abbrev pub IsSound : Tree → Type 0
 IsSound t = IsFalse (has_fault same_name (places (alone t)))
 
--- u is what the program t becomes: t mangled, under the names that are given, a program again and without fault
-pub record IsMangling (t u : Tree) : Type 0 where
+-- u is what the program t becomes under these options: t mangled, under the names that are given, a program again and without fault
+pub record IsMangling (o : Options) (t u : Tree) : Type 0 where
   pub of_program : IsProgram t
   pub sound : IsSound t
-  pub mangled : IsMangled (alone t) (usual_options t) (alone u)
-  pub names : names (alone u) ≡ new_names (usual_options t) (alone t)
+  pub mangled : IsMangled (alone t) o (alone u)
+  pub names : names (alone u) ≡ new_names o (alone t)
   pub program : IsProgram u
   pub sound_again : IsSound u

@@ -3,6 +3,7 @@ use Rattle.std.specs.Prelude.{◌≡◌, ℕ, ◌+◌, List, [], Some, length, I
 use Rattle.std.specs.declared.option.Option.{Option}
 use Rattle.std.specs.Io.KnownBytes.{Appends, IsAtEnd}
 use Rattle.mangle_tool.specs.Answer.{IsAnswer, IsCauseOf}
+use Rattle.mangle_tool.specs.Asked.{usual}
 use Rattle.mangle_tool.specs.Sink.{AppendsPrefix}
 use Rattle.mangle_tool.specs.declared.estree.error.MangleError.{MangleError}
 
@@ -19,19 +20,19 @@ pub record HasAnswered (left_old left_new : Option (List ℕ)) (given_old given_
   pub input : List ℕ
   pub text : List ℕ
   pub read : HasRead left_old left_new given_old given_new input
-  pub answer : IsAnswer input text
+  pub answer : IsAnswer usual input text
   pub written : Appends held_old held_new text
 
 -- the input was read, and this is wrong with it
 pub record HasRefused (left_old left_new : Option (List ℕ)) (given_old given_new : ℕ) (e : MangleError) : Type 0 where
   pub input : List ℕ
   pub read : HasRead left_old left_new given_old given_new input
-  pub cause : IsCauseOf e input
+  pub cause : IsCauseOf 0 e input
 
 -- the input was read, and a first part of its answer was written
 pub record HasBegun (left_old left_new : Option (List ℕ)) (given_old given_new : ℕ) (held_old held_new : Option (List ℕ)) : Type 0 where
   pub input : List ℕ
   pub text : List ℕ
   pub read : HasRead left_old left_new given_old given_new input
-  pub answer : IsAnswer input text
+  pub answer : IsAnswer usual input text
   pub written : AppendsPrefix held_old held_new text

@@ -1,14 +1,15 @@
 //! The whole program, over any source and sink.
 
-ghost use Rattle.std.specs.Prelude.{◌≡◌, ◌≢◌, ◌+◌, ◌-◌, ◌<◌, ◌≤◌, ◌↔◌, ◌⊎◌, length, IfSome, IsTrue};
+ghost use Rattle.std.specs.Prelude.{◌≡◌, ◌≢◌, ◌+◌, ◌-◌, ◌<◌, ◌≤◌, ◌↔◌, ◌⊎◌, length, IfErr, IfOk, IfSome, IsTrue, string_bytes};
 ghost use Rattle.mangle_tool.specs.declared.estree.error.MangleError.{MangleError};
 ghost use Rattle.mangle_tool.specs.declared.run.TheConstants.{INPUT_LIMIT};
-ghost use Rattle.mangle_tool.specs.Answer.{IsValidInput, refused_status};
+ghost use Rattle.mangle_tool.specs.Answer.{IsAnswer, IsCauseOf, IsValidInput, refused_status};
+ghost use Rattle.mangle_tool.specs.Asked.{usual};
 ghost use Rattle.mangle_tool.specs.Failures.{Rose};
 ghost use Rattle.mangle_tool.specs.Run.{HasAnswered, HasBegun, HasRefused};
 ghost use Rattle.mangle_tool.specs.Source.{LosesFront};
 
-use crate::estree::{MangleError, mangle_estree};
+use crate::estree::{Layout, MangleError, MangleOptions, mangle_estree};
 use crate::read_all::read_all;
 use crate::sink::Sink;
 use crate::source::{Failed, Source};
@@ -83,7 +84,7 @@ pub fn run<S: Source, K: Sink>(alloc: Global, source: &mut S, sink: &mut K) -> S
         Ok(input) => input,
         Err(error) => return Status::from(error),
     };
-    let text = match mangle_estree(alloc, input.as_slice()) {
+    let text = match usual_answer(alloc, input.as_slice()) {
         Ok(text) => text,
         Err(error) => return Status::from(error),
     };
@@ -91,4 +92,13 @@ pub fn run<S: Source, K: Sink>(alloc: Global, source: &mut S, sink: &mut K) -> S
         Ok(()) => Status::Done,
         Err(Failed) => Status::WriteFault,
     }
+}
+
+// The answer under the default options, in the compact layout.
+fn usual_answer(alloc: Global, input: &[u8]) -> Result<String, MangleError>
+    ensures answer { IfOk result (λ text. IsAnswer usual input.now (string_bytes text)) }
+    ensures cause { IfErr result (λ e. IsCauseOf 0 e input.now) }
+{
+    let options = MangleOptions::new(alloc);
+    mangle_estree(alloc, input, &options, Layout::Compact)
 }

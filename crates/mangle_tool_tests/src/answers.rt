@@ -1,7 +1,7 @@
 //! Inputs and their answers: what is wrapped, what is no JSON, what nests too deeply.
 
-use crate::samples::{EMPTY_ANSWER, EMPTY_MODULE, LET_ANSWER, LET_MODULE};
-use mangle_tool::estree::{MangleError, mangle_estree, mangle_value};
+use crate::samples::{EMPTY_ANSWER, EMPTY_MODULE, LET_ANSWER, LET_MODULE, usual_answer};
+use mangle_tool::estree::{Layout, MangleError, MangleOptions, mangle_value};
 use serde_json::Value;
 use std::alloc::{AllocError, Global};
 use std::test::Fail;
@@ -18,7 +18,7 @@ fn answers_are_read_again(rt: HostRuntime) -> Result<(), Fail> {
             EMPTY_ANSWER,
         ),
     ] {
-        let text = mangle_estree(rt.alloc(), input.as_bytes())?;
+        let text = usual_answer(rt.alloc(), input.as_bytes())?;
         assert!(rt; text.as_str() == answer, "of {input}");
     }
     Ok(())
@@ -43,7 +43,7 @@ fn other_wraps_are_refused(rt: HostRuntime) {
         ),
         ("{\"node\":", MangleError::NotJson),
     ] {
-        let answer = mangle_estree(rt.alloc(), input.as_bytes());
+        let answer = usual_answer(rt.alloc(), input.as_bytes());
         assert!(rt; answer.err() == Some(error), "of {input}");
     }
 }
@@ -51,14 +51,15 @@ fn other_wraps_are_refused(rt: HostRuntime) {
 #[test]
 fn values_are_answered_alike(rt: HostRuntime) -> Result<(), Fail> {
     let value = Value::from_str(rt.alloc(), EMPTY_ANSWER)?;
-    let text = mangle_value(rt.alloc(), &value)?;
+    let options = MangleOptions::new(rt.alloc());
+    let text = mangle_value(rt.alloc(), &value, &options, Layout::Compact)?;
     assert!(rt; text.as_str() == EMPTY_ANSWER);
     Ok(())
 }
 
 // Why the first bytes of the module have no answer, if they have none.
 fn error_of_beginning(alloc: Global, end: usize) -> Option<MangleError> {
-    mangle_estree(alloc, LET_MODULE.as_bytes().get(..end)?).err()
+    usual_answer(alloc, LET_MODULE.as_bytes().get(..end)?).err()
 }
 
 #[test]
@@ -80,7 +81,7 @@ fn nested(alloc: Global, levels: usize) -> Result<String, AllocError> {
 fn nesting_has_a_limit(rt: HostRuntime) -> Result<(), Fail> {
     for (levels, error) in [(127, MangleError::BadTree), (128, MangleError::NotJson)] {
         let input = nested(rt.alloc(), levels)?;
-        let answer = mangle_estree(rt.alloc(), input.as_bytes());
+        let answer = usual_answer(rt.alloc(), input.as_bytes());
         assert!(rt; answer.err() == Some(error), "of {levels} arrays");
     }
     Ok(())

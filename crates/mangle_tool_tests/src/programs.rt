@@ -1,7 +1,8 @@
 //! Programs with scopes inside scopes: which names they get.
 
 use crate::names::names_in;
-use mangle_tool::estree::{MangleError, mangle_estree};
+use crate::samples::usual_answer;
+use mangle_tool::estree::MangleError;
 use std::alloc::Global;
 use std::test::Fail;
 
@@ -14,7 +15,7 @@ const A_BLOCK_THAT_USES_WHAT_IS_OUTSIDE: &str =
     "{\"type\":\"Program\",\"body\":[{\"type\":\"VariableDeclaration\",\"kind\":\"let\",\"declarations\":[{\"type\":\"VariableDeclarator\",\"id\":{\"type\":\"Identifier\",\"name\":\"x\"}}]},{\"type\":\"BlockStatement\",\"body\":[{\"type\":\"VariableDeclaration\",\"kind\":\"let\",\"declarations\":[{\"type\":\"VariableDeclarator\",\"id\":{\"type\":\"Identifier\",\"name\":\"y\"},\"init\":{\"type\":\"Identifier\",\"name\":\"x\"}}]},{\"type\":\"ExpressionStatement\",\"expression\":{\"type\":\"Identifier\",\"name\":\"y\"}}]}],\"sourceType\":\"module\"}";
 
 // A function of a script.
-const A_FUNCTION_OF_A_SCRIPT: &str =
+pub(crate) const A_FUNCTION_OF_A_SCRIPT: &str =
     "{\"type\":\"Program\",\"body\":[{\"type\":\"FunctionDeclaration\",\"id\":{\"type\":\"Identifier\",\"name\":\"f\"},\"params\":[{\"type\":\"Identifier\",\"name\":\"a\"}],\"body\":{\"type\":\"BlockStatement\",\"body\":[{\"type\":\"ReturnStatement\",\"argument\":{\"type\":\"Identifier\",\"name\":\"a\"}}]}}],\"sourceType\":\"script\"}";
 
 // A shorthand property.
@@ -22,7 +23,7 @@ const A_SHORTHAND_PROPERTY: &str =
     "{\"type\":\"Program\",\"body\":[{\"type\":\"VariableDeclaration\",\"kind\":\"let\",\"declarations\":[{\"type\":\"VariableDeclarator\",\"id\":{\"type\":\"Identifier\",\"name\":\"x\"}}]},{\"type\":\"ExpressionStatement\",\"expression\":{\"type\":\"ObjectExpression\",\"properties\":[{\"type\":\"Property\",\"kind\":\"init\",\"key\":{\"type\":\"Identifier\",\"name\":\"x\"},\"value\":{\"type\":\"Identifier\",\"name\":\"x\"},\"shorthand\":true}]}}],\"sourceType\":\"module\"}";
 
 // A shadowed name of a function.
-const A_SHADOWED_NAME_OF_A_FUNCTION: &str =
+pub(crate) const A_SHADOWED_NAME_OF_A_FUNCTION: &str =
     "{\"type\":\"Program\",\"body\":[{\"type\":\"ExpressionStatement\",\"expression\":{\"type\":\"FunctionExpression\",\"id\":{\"type\":\"Identifier\",\"name\":\"f\"},\"params\":[{\"type\":\"Identifier\",\"name\":\"f\"}],\"body\":{\"type\":\"BlockStatement\",\"body\":[{\"type\":\"ReturnStatement\",\"argument\":{\"type\":\"Identifier\",\"name\":\"f\"}}]}}}],\"sourceType\":\"script\"}";
 
 // An export.
@@ -43,7 +44,7 @@ const A_WITH: &str =
 
 // The names in the answer to a program.
 fn names_given(alloc: Global, input: &str) -> Result<String, MangleError> {
-    let text = mangle_estree(alloc, input.as_bytes())?;
+    let text = usual_answer(alloc, input.as_bytes())?;
     Ok(names_in(alloc, text.as_str())?)
 }
 

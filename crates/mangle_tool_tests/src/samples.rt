@@ -1,5 +1,8 @@
 //! Inputs and answers, in the layout of acorn and in that of this project.
 
+use mangle_tool::estree::{Layout, MangleError, MangleOptions, mangle_estree};
+use std::alloc::Global;
+
 // A module with an empty body, of 84 bytes.
 pub(crate) const EMPTY_MODULE: &str =
     "{\"type\":\"Program\",\"start\":0,\"end\":0,\"body\":[],\"sourceType\":\"module\",\"hashbang\":null}";
@@ -7,6 +10,10 @@ pub(crate) const EMPTY_MODULE: &str =
 // The answer to it, of 106 bytes.
 pub(crate) const EMPTY_ANSWER: &str =
     "{\"node\":\n{\"type\":\"Program\",\"start\":0,\"end\":0,\"body\":[],\"sourceType\":\"module\",\"hashbang\":null}\n,\"fixes\":[]}";
+
+// The answer to it in the pretty layout.
+pub(crate) const PRETTY_ANSWER: &str =
+    "{\"node\":\n{\n  \"type\": \"Program\",\n  \"start\": 0,\n  \"end\": 0,\n  \"body\": [],\n  \"sourceType\": \"module\",\n  \"hashbang\": null\n}\n,\"fixes\":[]}";
 
 // The module `let x = 1; x`, as acorn writes it.
 pub(crate) const LET_MODULE: &str =
@@ -18,3 +25,8 @@ pub(crate) const LET_ANSWER: &str =
 
 // A text of 27 bytes.
 pub(crate) const TEXT: &[u8] = b"{\"node\":\n{\"type\":\"Program\"}";
+
+// The answer under the default options, in the compact layout.
+pub(crate) fn usual_answer(alloc: Global, input: &[u8]) -> Result<String, MangleError> {
+    mangle_estree(alloc, input, &MangleOptions::new(alloc), Layout::Compact)
+}

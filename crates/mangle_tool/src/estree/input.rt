@@ -1,42 +1,71 @@
-//! The program in a value.
+//! The program in an input, as bytes or as a value.
 
-ghost use Rattle.std.specs.Prelude.{◌≡◌, ◌↔◌, false, Err, IfErr, IfOk, IsTrue, None, Some, is_some, option_and_then, option_map};
+ghost use Rattle.std.specs.Prelude.{◌≡◌, ◌+◌, ◌<◌, ◌^◌, ◌↔◌, false, Err, IfErr, IfOk, IsTrue, None, Some, is_some, option_and_then, option_map};
 ghost use Rattle.serde_json.specs.Find.{as_array};
 ghost use Rattle.serde_json.specs.View.{view, members_view};
 ghost use Rattle.tree_core.specs.JsonOf.{json_of};
 ghost use Rattle.tree_core.specs.Limits.{is_too_large};
+ghost use Rattle.tree_core.specs.NodeCount.{node_count};
 ghost use Rattle.tree_core.specs.Reading.{tree_of};
-ghost use Rattle.mangle_tool.specs.Answer.{IsCauseFor, read_refusal};
+ghost use Rattle.mangle_tool.specs.Answer.{IsCauseFor, IsCauseOf, IsReadFrom, read_refusal};
 ghost use Rattle.mangle_tool.specs.Input as spec;
 ghost use Rattle.mangle_tool.specs.Input.{program_in};
 ghost use Rattle.mangle_tool.specs.Mangling.{tree_in};
 
+use super::error::MangleError;
 use serde_json::{Map, Value};
 use std::alloc::Global;
 use tree_core::{Program, ReadError, is_too_large, read_tree};
 
-// The program that a value is or wraps. The limits are those of the whole value.
-pub(crate) fn taken_program(alloc: Global, value: &Value) -> Result<Program, ReadError>
-    ensures ok { IfOk result (λ p. tree_in (view value.now) ≡ Some p) }
-    ensures within { IfOk result (λ _. is_too_large (view value.now) 0 ≡ false) }
-    ensures cause { IfErr result (λ e. IsCauseFor (read_refusal e) (view value.now)) }
+// The program in these bytes, where so many names are reserved. The JSON value is let go here, so that
+// it and what becomes of the program are never held together.
+pub(crate) fn program_of(
+    alloc: Global,
+    input: &[u8],
+    reserved: usize,
+) -> Result<Program, MangleError>
+    ensures ok { IfOk result (λ p. IsReadFrom reserved input.now p) }
+    ensures few { IfOk result (λ p. node_count p + reserved < 2 ^ 30) }
+    ensures cause { IfErr result (λ e. IsCauseOf reserved e input.now) }
 {
-    read_program(alloc, value)
+    let value = match Value::from_slice(alloc, input) {
+        Ok(value) => value,
+        Err(error) if error.is_memory() => return Err(MangleError::Memory),
+        Err(_) => return Err(MangleError::NotJson),
+    };
+    Ok(taken_program(alloc, &value, reserved)?)
+}
+
+// The program that a value is or wraps. The limits are those of the whole value and of the reserved
+// names, so many, together.
+pub(crate) fn taken_program(
+    alloc: Global,
+    value: &Value,
+    reserved: usize,
+) -> Result<Program, ReadError>
+    ensures ok { IfOk result (λ p. tree_in (view value.now) ≡ Some p) }
+    ensures within { IfOk result (λ _. is_too_large (view value.now) reserved ≡ false) }
+    ensures few { IfOk result (λ p. node_count p + reserved < 2 ^ 30) }
+    ensures cause { IfErr result
+        (λ e. IsCauseFor reserved (read_refusal e) (view value.now)) }
+{
+    read_program(alloc, value, reserved)
 }
 
 // The tree of the program that a value is or wraps. The limits are those of the whole value.
-fn read_program(alloc: Global, value: &Value) -> Result<Program, ReadError>
+fn read_program(alloc: Global, value: &Value, reserved: usize) -> Result<Program, ReadError>
     ensures ok { IfOk result
         (λ p. tree_of (json_of (program_in (view value.now))) ≡ Some p) }
+    ensures few { IfOk result (λ p. node_count p + reserved < 2 ^ 30) }
     ensures too_large { (result ≡ Err ReadError.TooLarge)
-        ↔ IsTrue (is_too_large (view value.now) 0) }
+        ↔ IsTrue (is_too_large (view value.now) reserved) }
     ensures bad_tree { result ≡ Err ReadError.BadTree
         → tree_of (json_of (program_in (view value.now))) ≡ None }
 {
     match wrapped_program(value) {
-        Some(_) if is_too_large(value, 0) => Err(ReadError::TooLarge),
-        Some(node) => read_tree(alloc, node, 0),
-        None => read_tree(alloc, value, 0),
+        Some(_) if is_too_large(value, reserved) => Err(ReadError::TooLarge),
+        Some(node) => read_tree(alloc, node, reserved),
+        None => read_tree(alloc, value, reserved),
     }
 }
 
