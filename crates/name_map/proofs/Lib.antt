@@ -1,1 +1,20 @@
+-- joined runs, the steps of the walk's loops
+pub mod FilledJoined
+pub mod FillSteps
+pub mod FlagPut
+-- what filling changes and what it keeps
+pub mod FilledAlike
+pub mod FilledNames
+pub mod FilledBack
+-- programs
+pub mod FilledPrograms
+-- Properties
+pub mod ListedPairs
+-- lists
+pub mod ListSteps
+pub mod NamesChosen
+pub mod Entries
+-- what a map gives back
+pub mod Restored
 pub mod PairItems
+pub mod MadeMaps

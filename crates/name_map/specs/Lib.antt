@@ -1,3 +1,9 @@
 pub mod Undoing
+pub mod Filled
+pub mod Fits
 pub mod Reading
 pub mod ReadError
+pub mod Spots
+pub mod Choices
+pub mod Kept
+pub mod Views
