@@ -1,5 +1,5 @@
 -- A program under other names and marks is a program, if its nodes stand where they may.
-use Rattle.std.proofs.Common.{◌≡◌, ℕ, zero, Bool, true, ◌+◌, ◌<◌, ◌≤◌, ◌^◌, suc, List, length, sym, subst, ap, ap₂, refl, ◌∙◌, arith}
+use Rattle.std.proofs.Common.{◌≡◌, ℕ, zero, Bool, true, ◌+◌, ◌<◌, ◌≤◌, ◌^◌, suc, max, List, length, sym, subst, ap, ap₂, refl, ◌∙◌, arith}
 use Rattle.std.specs.List.{AllByRecursion}
 use Rattle.name_map.proofs.FilledAlike.{filled_alike}
 use Rattle.name_map.proofs.FilledNames.{filled_named}
@@ -10,6 +10,8 @@ use Rattle.tree_core.proofs.ReadTrees.{tree_of-placed}
 use Rattle.tree_core.specs.NodeCount.{node_count, nodes_in}
 use Rattle.tree_core.specs.Program.{IsProgram}
 use Rattle.tree_core.specs.Values.{value_of}
+use Rattle.tree_core.specs.Widest.{widest_list}
+use Rattle.tree_nodes.specs.Look.{parts_len}
 use Rattle.tree_nodes.specs.Standing.{is_placed}
 use Rattle.tree_nodes.specs.Tree.{Parts, Text, Tree, alone, atom, child, done, flag, many, text}
 use Rattle.tree_nodes.specs.declared.kind.Kind.{Kind}
@@ -60,6 +62,50 @@ counts g u =
     let same : nodes_in (alone (filled_tree g u)) ≡ nodes_in (alone u) = nodes_filled g (alone u) in
     omega (arith, same)
 
+-- ---- lists as wide
+
+long_filled : (g : Given) (p : Parts) → parts_len (filled g p) ≡ parts_len p
+unfolding filled
+long_filled g done = refl
+long_filled g (atom a more) = ap suc (long_filled g more)
+long_filled g (many items more) = ap suc (long_filled (after items g) more)
+long_filled g (child k s e fields more) = ap suc (long_filled (after fields (inside k g)) more)
+
+widest_called : (x : Text) (p : Parts) → widest_list (called x p) ≡ widest_list p
+unfolding called
+widest_called x (atom (text y) more) = refl
+widest_called x _ = refl
+
+widest_put : (i : ℕ) (b : Bool) (p : Parts) → widest_list (flag_put i b p) ≡ widest_list p
+unfolding flag_put
+widest_put i b done = refl
+widest_put zero b (atom (flag c) more) = refl
+widest_put zero b (atom _ more) = refl
+widest_put (suc i) b (atom a more) = widest_put i b more
+widest_put zero b (many items more) = refl
+widest_put (suc i) b (many items more) = ap (λ n. max (parts_len items) (max (widest_list items) n)) (widest_put i b more)
+widest_put zero b (child k s e fields more) = refl
+widest_put (suc i) b (child k s e fields more) = ap (λ n. max (widest_list fields) n) (widest_put i b more)
+
+widest_own : (k : Kind) (g : Given) (p : Parts) → widest_list (own_filled k g p) ≡ widest_list p
+unfolding own_filled
+widest_own Identifier g p = widest_called _ p
+widest_own PrivateIdentifier g p = widest_called _ p
+widest_own Property g p = widest_put 4 _ p
+widest_own _ g p = refl
+
+widest_filled : (g : Given) (p : Parts) → widest_list (filled g p) ≡ widest_list p
+unfolding filled
+widest_filled g done = refl
+widest_filled g (atom a more) = widest_filled g more
+widest_filled g (many items more) =
+    ap₂ max (long_filled g items) (ap₂ max (widest_filled g items) (widest_filled (after items g) more))
+widest_filled g (child k s e fields more) =
+    ap₂ max (widest_own k g (filled (inside k g) fields) ∙ widest_filled (inside k g) fields) (widest_filled (after fields (inside k g)) more)
+
+as_wide : (g : Given) (u : Tree) → widest_list (filled_tree g u).fields ≡ widest_list u.fields
+as_wide g u = widest_own u.kind g (filled (inside u.kind g) u.fields) ∙ widest_filled (inside u.kind g) u.fields
+
 -- ---- a program
 
 pub program_placed : (t : Tree) → IsProgram t → is_placed t ≡ true
@@ -73,4 +119,4 @@ filled_program g u p a l placed =
     let formed = (program_formed u p).0 in
     let alike : blind (alone w) ≡ blind (alone u) = filled_alike g (alone u) formed in
     let new = tree_fits_alike w u alike formed (filled_named g (alone u) formed a l) (tree_fits (value_of u) u p.0) in
-    (tree_of-placed (value_of w) w (tree_back w new).0 placed, subst (λ k. k < 2 ^ 30) (sym (counts g u)) p.1)
+    (tree_of-placed (value_of w) w (tree_back w new).0 placed, subst (λ k. k < 2 ^ 30) (sym (counts g u)) p.1, subst (λ k. k < 2 ^ 30) (sym (as_wide g u)) p.2)

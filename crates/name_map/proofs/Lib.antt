@@ -14,7 +14,13 @@ pub mod ListedPairs
 pub mod ListSteps
 pub mod NamesChosen
 pub mod Entries
+-- trees that are the same, and a tree that is another renamed
+pub mod SameTrees
+pub mod RenamedTold
+pub mod KeptSteps
 -- what a map gives back
 pub mod Restored
 pub mod PairItems
 pub mod MadeMaps
+-- what a map is as text
+pub mod WrittenMaps

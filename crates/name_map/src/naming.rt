@@ -2,12 +2,14 @@
 
 ghost use Rattle.std.specs.Prelude.{◌≡◌, IfOk, None, length, map, replicate, slice_set, string_bytes, true, Some};
 ghost use Rattle.name_map.specs.Choices.{choose};
-ghost use Rattle.name_map.specs.Fits.{names_fit, plain_places};
+ghost use Rattle.name_map.specs.Fits as fits;
+ghost use Rattle.name_map.specs.Fits.{plain_places};
 ghost use Rattle.name_map.specs.Undoing.{put_names};
 ghost use Rattle.tree_nodes.specs.Tree.{alone};
 ghost use Rattle.tree_places.specs.Places.{names as names_of};
 ghost use Rattle.tree_places.specs.Renaming.{IsRenamed};
 
+use crate::fits::names_fit;
 use crate::list::PlaceNames;
 use crate::spots::list_spots;
 use std::alloc::{AllocError, Global};
@@ -69,6 +71,19 @@ fn texts(alloc: Global, names: &PlaceNames) -> Result<Vec<String>, AllocError>
     Ok(texts)
 }
 
+/// Whether a program's places can take the names of a list: the numbers strictly rise, each is that of a place
+/// that isn't plain, and each name is an identifier name of at most 4,294,967,295 bytes. Err is want of memory.
+pub fn can_take_names(
+    alloc: Global,
+    program: &Program,
+    names: &PlaceNames,
+) -> Result<bool, AllocError>
+    ensures { IfOk result (λ b. b ≡ fits.names_fit (plain_places program.now) 0 names.now) }
+{
+    let spots = list_spots(alloc, program.root())?;
+    Ok(names_fit(spots.plain.as_slice(), names))
+}
+
 /// A copy of the program in which the listed places have the listed names, and all others the names that they
 /// had. A shorthand mark ends where the names of key and value no longer agree. Err is want of memory.
 pub fn with_names(
@@ -76,7 +91,7 @@ pub fn with_names(
     program: &Program,
     names: &PlaceNames,
 ) -> Result<Program, AllocError>
-    requires { names_fit (plain_places program.now) 0 names.now ≡ true }
+    requires { fits.names_fit (plain_places program.now) 0 names.now ≡ true }
     ensures renamed { IfOk result (λ w. IsRenamed (alone program.now) (alone w)) }
     ensures names { IfOk result (λ w. names_of (alone w) ≡ put_names names.now (names_of (alone program.now))) }
 {

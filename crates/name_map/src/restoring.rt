@@ -3,6 +3,7 @@
 ghost use Rattle.std.specs.Prelude.{◌≡◌, IfOk, IsTrue, map};
 ghost use Rattle.name_map.specs.Fits.{Fits};
 ghost use Rattle.name_map.specs.Filled.{apply_map, filled_tree, given};
+ghost use Rattle.name_map.specs.Made.{IsGivenBack};
 
 use crate::fill::{Given, fill_node};
 use crate::fits::{marks_fit, names_fit, put_marks, put_names};
@@ -48,12 +49,14 @@ pub(crate) fn filled(
     Ok(copy)
 }
 
-/// The program with the names of a map at their places and its marks on. `BadMap` comes exactly where the map
+/// The program with the names of a map at their places and its marks on: where the map was made of a renaming,
+/// the program that was renamed. `BadMap` comes exactly where the map
 /// doesn't fit: its numbers don't strictly rise, a place isn't there or is plain, a name is no identifier
 /// name or too long, a mark isn't there or is on, or what would come is no program.
 pub fn restore(alloc: Global, program: &Program, map: &NameMap) -> Result<Program, RestoreError>
     ensures fits { IfOk result (λ p. Fits program.now map.now) }
     ensures restored { IfOk result (λ p. p ≡ apply_map program.now map.now) }
+    ensures given_back { IfOk result (λ p. IsGivenBack program.now map.now p) }
     ensures bad_map { result ≡ Err RestoreError.BadMap → ¬ Fits program.now map.now }
 {
     let root = program.root();

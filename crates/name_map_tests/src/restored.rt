@@ -1,20 +1,10 @@
 //! What maps restore of a small program.
 
+use crate::programs::{MANGLED, program};
 use name_map::{MapReadError, RestoreError, read_map, restore};
 use serde_json::Value;
 use std::alloc::Global;
 use std::test::Fail;
-use tree_core::{Program, read_tree};
-// `let e = 1; ({ x: e })` as a module.
-const MANGLED: &str =
-    "{\"type\":\"Program\",\"sourceType\":\"module\",\"body\":[{\"type\":\"VariableDeclaration\",\"kind\":\"let\",\"declarations\":[{\"type\":\"VariableDeclarator\",\"id\":{\"type\":\"Identifier\",\"name\":\"e\"},\"init\":{\"type\":\"Literal\",\"value\":1,\"raw\":\"1\"}}]},{\"type\":\"ExpressionStatement\",\"expression\":{\"type\":\"ObjectExpression\",\"properties\":[{\"type\":\"Property\",\"kind\":\"init\",\"key\":{\"type\":\"Identifier\",\"name\":\"x\"},\"value\":{\"type\":\"Identifier\",\"name\":\"e\"},\"method\":false,\"shorthand\":false,\"computed\":false}]}}]}";
-
-fn mangled(alloc: Global) -> Result<Program, Fail> {
-    match read_tree(alloc, &Value::from_str(alloc, MANGLED)?, 0) {
-        Ok(program) => Ok(program),
-        Err(_) => Err(Fail::from("no tree")),
-    }
-}
 
 // What becomes of the program under the map of a text.
 fn outcome(alloc: Global, text: &str) -> Result<&'static str, Fail> {
@@ -23,7 +13,7 @@ fn outcome(alloc: Global, text: &str) -> Result<&'static str, Fail> {
         Err(MapReadError::BadForm) => return Ok("bad form"),
         Err(MapReadError::Memory) => return Ok("memory"),
     };
-    match restore(alloc, &mangled(alloc)?, &map) {
+    match restore(alloc, &program(alloc, MANGLED)?, &map) {
         Ok(_) => Ok("restored"),
         Err(RestoreError::BadMap) => Ok("bad map"),
         Err(RestoreError::Memory) => Ok("memory"),
