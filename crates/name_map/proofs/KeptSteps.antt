@@ -1,9 +1,10 @@
 -- One step of a loop over two lists or three, side by side.
-use Rattle.std.proofs.Common.{◌≡◌, ℕ, suc, ◌+◌, ◌≤◌, Bool, true, false, not, ◌&&◌, ◌||◌, List, [], ◌∷◌, ◌++◌, length, drop, map, bytes_eq, if◌then◌else◌, refl, sym, ap, ap₂, ◌∙◌, arith}
+use Rattle.std.proofs.Common.{◌≡◌, ℕ, suc, ◌+◌, ◌≤◌, ◌<◌, ◌^◌, Bool, true, false, not, ◌&&◌, ◌||◌, List, [], ◌∷◌, ◌++◌, length, drop, map, bytes_eq, if◌then◌else◌, Result, Ok, Err, IfOk, OnOk, refl, sym, ap, ap₂, subst, ◌∙◌, arith}
 use Rattle.std.proofs.lemmas.List.{append_assoc, append-nil}
 use Rattle.std.specs.List.{AllByRecursion}
+use Rattle.list_laws.proofs.AllOf.{AllOf_push}
 use Rattle.name_map.specs.Kept.{keeps_marks, keeps_plain}
-use Rattle.name_map.specs.Undoing.{OldName, differing, old_name, taken_off}
+use Rattle.name_map.specs.Undoing.{IsSized, OldName, differing, old_name, taken_off}
 use Rattle.name_map.specs.declared.spots.Pair.{Pair}
 use Rattle.tree_nodes.specs.Tree.{Text}
 
@@ -147,3 +148,13 @@ module _ (cs ds : List Bool) (i : ℕ) (now : List ℕ) (so_far : taken_off 0 cs
 
   pub taken_past : drop i ds ≡ [] → now ≡ taken_off 0 cs ds
   taken_past e = sym (so_far ∙ ap (λ l. now ++ l) (ap (taken_off i (drop i cs)) e ∙ taken_over i (drop i cs)) ∙ append-nil now)
+
+-- ---- lists that grow by one with a property
+
+pub sized_more : (is : List ℕ) (i : ℕ) → AllByRecursion IsSized is → i < 2 ^ 32 → AllByRecursion IsSized (is ++ i ∷ [])
+sized_more is i a h = AllOf_push IsSized is i a h
+
+pub pushed_all : {X T E : Type 0} (P : X → Type 0) (r : Result T E) (old new : List X) (x : X) → OnOk r (new ≡ old ++ x ∷ []) → P x
+    → IfOk r (λ _. AllByRecursion P old → AllByRecursion P new)
+pushed_all P (Ok u) old new x e h = λ a. subst (AllByRecursion P) (sym e) (AllOf_push P old x a h)
+pushed_all P (Err e) old new x o h = tt

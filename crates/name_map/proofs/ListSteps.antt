@@ -1,7 +1,7 @@
 -- One step of a loop over a list.
-use Rattle.std.proofs.Common.{◌≡◌, ℕ, zero, suc, ◌+◌, ◌≤◌, ◌<◌, Bool, true, false, ◌&&◌, List, [], ◌∷◌, length, drop, Option, Some, None, get_or, slice_get, slice_set, refl, sym, ap, ◌∙◌, arith}
+use Rattle.std.proofs.Common.{◌≡◌, ℕ, zero, suc, ◌+◌, ◌≤◌, ◌<◌, Bool, true, false, ◌&&◌, List, [], ◌∷◌, length, drop, map, Option, Some, None, get_or, slice_get, slice_set, refl, sym, ap, ◌∙◌, arith}
 use Rattle.std.proofs.Math.Seq.{drop-cons}
-use Rattle.std.proofs.lemmas.List.{drop_all}
+use Rattle.std.proofs.lemmas.List.{drop_all, length-map}
 use Rattle.name_map.specs.Choices.{choose}
 use Rattle.name_map.specs.Fits.{mark_fits, marks_fit, name_fits, names_fit}
 use Rattle.name_map.specs.Undoing.{OldName, put_marks, put_names}
@@ -26,6 +26,25 @@ at_end (y ∷ ys) (suc i) e = at_end ys i e
 
 pub past_end : {X : Type 0} (xs : List X) (i : ℕ) → length xs ≤ i → drop i xs ≡ []
 past_end xs i h = drop_all i xs h
+
+-- with what stands at an index
+lent_from : {X Y : Type 0} (f : X → Y) (xs : List X) (i : ℕ) (x : X) → i < length xs → x ≡ get_or xs i x → drop i (map f xs) ≡ f x ∷ drop (suc i) (map f xs)
+lent_from f [] i x h e = absurd (omega (arith, h))
+lent_from f (y ∷ ys) zero x h e = ap (λ z. f z ∷ map f ys) (sym e)
+lent_from f (y ∷ ys) (suc i) x h e = lent_from f ys i x (omega (arith, h)) e
+
+-- of a list that stands for another
+pub lent_next : {X Y : Type 0} (f : X → Y) (xs : List X) (i : ℕ) (x : X) → i < length xs → x ≡ get_or xs i x → drop i (map f xs) ≡ f x ∷ drop (i + 1) (map f xs)
+lent_next f xs i x h e = lent_from f xs i x h e ∙ ap (λ j. f x ∷ drop j (map f xs)) (one_more i)
+
+pub mapped_past : {X Y : Type 0} (f : X → Y) (xs : List X) (i : ℕ) → length xs ≤ i → drop i (map f xs) ≡ []
+mapped_past f xs i h = drop_all i (map f xs) (omega (arith, h, length-map f xs))
+
+pub next_at : {X : Type 0} (xs : List X) (i : ℕ) (d : X) → i < length xs → drop i xs ≡ get_or xs i d ∷ drop (i + 1) xs
+next_at xs i d h = drop-cons xs i d h ∙ ap (λ j. get_or xs i d ∷ drop j xs) (one_more i)
+
+pub lent_item : {X : Type 0} (xs : List X) (i : ℕ) (x : X) → i < length xs → x ≡ get_or xs i x → drop i xs ≡ x ∷ drop (i + 1) xs
+lent_item xs i x h e = next_at xs i x h ∙ ap (λ y. y ∷ drop (i + 1) xs) (sym e)
 
 -- ---- names that are put
 

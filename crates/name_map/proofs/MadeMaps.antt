@@ -2,12 +2,13 @@
 use Rattle.std.proofs.Common.{◌≡◌, ℕ, zero, suc, ◌+◌, ◌≤◌, ◌<◌, ◌^◌, Bool, true, false, not, ◌&&◌, ◌||◌, nat_lt, List, [], ◌∷◌, ◌++◌, length, map, Option, Some, None, slice_get, slice_set, bytes_eq, if◌then◌else◌, refl, sym, ap, ap₂, subst, ◌∙◌, arith}
 use Rattle.std.proofs.lemmas.List.{append_assoc, length-map}
 use Rattle.std.specs.List.{AllByRecursion}
+use Rattle.name_map.proofs.Restored.{program_short}
 use Rattle.name_map.proofs.RenamedTold.{as_many_marks, as_many_names, renamed_back, renamed_keeps_plain}
 use Rattle.name_map.specs.Filled.{apply_map, filled_tree, given}
 use Rattle.name_map.specs.Fits.{Fits, is_off, is_old_name, mark_fits, marks_fit, name_fits, names_fit, plain_places}
 use Rattle.name_map.specs.Kept.{keeps_plain}
 use Rattle.name_map.specs.Made.{IsGivenBack, IsMapOf}
-use Rattle.name_map.specs.Undoing.{IsShort, OldName, Undoing, differing, old_name, put_marks, put_names, taken_off}
+use Rattle.name_map.specs.Undoing.{OldName, Undoing, differing, old_name, put_marks, put_names, taken_off}
 use Rattle.tree_core.specs.Program.{IsProgram}
 use Rattle.tree_nodes.proofs.Cases.{both as parts_of_both, bytes_equal}
 use Rattle.tree_nodes.specs.Tree.{Text, Tree, alone}
@@ -17,7 +18,7 @@ use Rattle.tree_places.specs.Renaming.{IsRenamed, agreements, both, is_plain, ma
 use Rattle.tree_rename.proofs.IdentifierNames.{all_named}
 use Rattle.tree_rename.proofs.RenamedPrograms.{program_formed}
 use Rattle.tree_rename.proofs.WalkRenames.{same_sites}
-use Rattle.tree_rename.specs.Laws.{IsName}
+use Rattle.tree_rename.specs.Laws.{IsName, IsShort}
 
 there : {X : Type 0} (pre : List X) (x : X) (xs : List X) → slice_get (pre ++ x ∷ xs) (length pre) ≡ Some x
 there [] x xs = refl
@@ -68,14 +69,15 @@ place_off : (pre : List Bool) (p : Bool) (ps : List Bool) (n : ℕ) → length p
 place_off pre p ps n l e =
     ap (λ i. is_off (slice_get (pre ++ p ∷ ps) i)) (sym l) ∙ ap is_off (there pre p ps) ∙ ap not e
 
-old_is : (x : Text) → IsName x → length x < 2 ^ 32 → is_old_name x ≡ true
+old_is : (x : Text) → IsName x → IsShort x → is_old_name x ≡ true
 unfolding is_old_name
 old_is x h l =
-    let short : nat_lt (length x) (2 ^ 32) ≡ true = search (arith, l) in
+    let low : length x < 2 ^ 32 = l in
+    let short : nat_lt (length x) (2 ^ 32) ≡ true = search (arith, low) in
     ap₂ (λ a b. a && b) short h.1
 
 fit_on : (pre ps : List Bool) (n least : ℕ) (xs ys : List Text) → length pre ≡ n → least ≤ n → length xs ≡ length ps → length ys ≡ length ps
-    → keeps_plain ps xs ys ≡ true → AllByRecursion IsName xs → AllByRecursion IsShort (differing n xs ys)
+    → keeps_plain ps xs ys ≡ true → AllByRecursion IsName xs → AllByRecursion IsShort xs
     → names_fit (pre ++ ps) least (differing n xs ys) ≡ true
 unfolding differing keeps_plain name_fits names_fit
 fit_on pre [] n least [] ys l m e f k a s = refl
@@ -84,23 +86,22 @@ fit_on pre (p ∷ ps) n least [] ys l m e f k a s = absurd (cc)
 fit_on pre (p ∷ ps) n least (x ∷ xs) [] l m e f k a s = absurd (cc)
 fit_on pre (p ∷ ps) n least (x ∷ xs) (y ∷ ys) l m e f k a s =
     let parts = parts_of_both (not p || bytes_eq x y) (keeps_plain ps xs ys) k in
-    by_test (bytes_eq x y) parts.0 s (λ from h d.
+    by_test (bytes_eq x y) parts.0 (λ from h.
     ap (λ bs. names_fit bs from (differing (suc n) xs ys)) (sym (append_assoc pre (p ∷ []) ps))
-    ∙ fit_on (pre ++ p ∷ []) ps (suc n) from xs ys (one_longer pre p n l) h (cc) (cc) parts.1 a.1 d)
+    ∙ fit_on (pre ++ p ∷ []) ps (suc n) from xs ys (one_longer pre p n l) h (cc) (cc) parts.1 a.1 s.1)
   where
     by_test : (b : Bool) → (not p || b) ≡ true
-        → AllByRecursion IsShort (if b then differing (suc n) xs ys else old_name n x ∷ differing (suc n) xs ys)
-        → ((from : ℕ) → from ≤ suc n → AllByRecursion IsShort (differing (suc n) xs ys) → names_fit (pre ++ p ∷ ps) from (differing (suc n) xs ys) ≡ true)
+        → ((from : ℕ) → from ≤ suc n → names_fit (pre ++ p ∷ ps) from (differing (suc n) xs ys) ≡ true)
         → names_fit (pre ++ p ∷ ps) least (if b then differing (suc n) xs ys else old_name n x ∷ differing (suc n) xs ys) ≡ true
-    by_test true h d later = later least (omega (arith, m)) d
-    by_test false h d later =
+    by_test true h later = later least (omega (arith, m))
+    by_test false h later =
         let here : (not (nat_lt n least) && is_off (slice_get (pre ++ p ∷ ps) n) && is_old_name x) ≡ true =
-        all_three (not (nat_lt n least)) (is_off (slice_get (pre ++ p ∷ ps) n)) (is_old_name x) (not_below n least m) (place_off pre p ps n l (not_plain p h)) (old_is x a.0 d.0) in
-        ap₂ (λ u v. u && v) here (later (suc n) (omega arith) d.1)
+        all_three (not (nat_lt n least)) (is_off (slice_get (pre ++ p ∷ ps) n)) (is_old_name x) (not_below n least m) (place_off pre p ps n l (not_plain p h)) (old_is x a.0 s.0) in
+        ap₂ (λ u v. u && v) here (later (suc n) (omega arith))
 
 -- the names that differ are for places that aren't plain, in turn
 pub differing_fit : (ps : List Bool) (xs ys : List Text) → length xs ≡ length ps → length ys ≡ length ps → keeps_plain ps xs ys ≡ true
-    → AllByRecursion IsName xs → AllByRecursion IsShort (differing 0 xs ys) → names_fit ps 0 (differing 0 xs ys) ≡ true
+    → AllByRecursion IsName xs → AllByRecursion IsShort xs → names_fit ps 0 (differing 0 xs ys) ≡ true
 differing_fit ps xs ys e f k a s = fit_on [] ps 0 0 xs ys refl (omega arith) e f k a s
 
 -- ---- marks
@@ -163,13 +164,13 @@ module _ (t u : Tree) (m : Undoing) (made : IsMapOf t u m) where
       ∙ renamed_back t u made.renamed
 
   -- and fits the other
-  pub made_fits : IsProgram t → AllByRecursion IsShort (differing 0 (names (alone t)) (names (alone u))) → Fits u m
-  made_fits p s =
+  pub made_fits : IsProgram t → Fits u m
+  made_fits p =
       let long : length (map is_plain (sites (alone t))) ≡ length (sites (alone t)) = length-map is_plain (sites (alone t)) in
       record {
         names = ap₂ (λ ps os. names_fit ps 0 os) same_plain made.names
             ∙ differing_fit (plain_places t) (names (alone t)) (names (alone u)) (one_name_each (alone t) ∙ sym long) (as_many_names (alone t) (alone u) (made.renamed).alike ∙ sym long)
-            (renamed_keeps_plain t u made.renamed) (all_named (alone t) (program_formed t p).1) s;
+            (renamed_keeps_plain t u made.renamed) (all_named (alone t) (program_formed t p).1) (program_short t p);
         marks = ap (marks_fit (marks (alone u)) 0) made.marks ∙ taken_fit (marks (alone t)) (marks (alone u));
         program = subst IsProgram (sym made_restores) p;
       }

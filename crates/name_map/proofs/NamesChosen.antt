@@ -1,5 +1,5 @@
 -- Choices that give the names of a list to its places.
-use Rattle.std.proofs.Common.{◌≡◌, ℕ, zero, suc, ◌+◌, ◌<◌, ◌≤◌, Bool, true, false, not, ◌&&◌, ◌||◌, List, [], ◌∷◌, length, map, drop, replicate, Option, Some, None, is_some, slice_get, slice_set, String, IsTrue, string_bytes, refl, sym, ap, ap₂, subst, ◌∙◌, arith}
+use Rattle.std.proofs.Common.{◌≡◌, ℕ, zero, suc, ◌+◌, ◌<◌, ◌≤◌, ◌^◌, nat_lt, Bool, true, false, not, ◌&&◌, ◌||◌, List, [], ◌∷◌, length, map, drop, replicate, Option, Some, None, is_some, slice_get, slice_set, String, IsTrue, string_bytes, refl, sym, ap, ap₂, subst, ◌∙◌, arith}
 use Rattle.std.proofs.lemmas.List.{length-map, length-replicate, length-set}
 use Rattle.std.specs.List.{AllByRecursion}
 use Rattle.name_map.specs.Choices.{choose}
@@ -11,19 +11,25 @@ use Rattle.tree_nodes.specs.Tree.{Text}
 use Rattle.tree_places.specs.Chosen.{chosen, given_name, or_own, spare_plain}
 use Rattle.tree_places.specs.Places.{Site}
 use Rattle.tree_places.specs.Renaming.{is_plain}
+use Rattle.tree_rename.specs.Laws.{IsShort}
 
 -- ---- what fitting names are
 
 pub record FitsPlace (plain : List Bool) (o : OldName) : Type 0 where
   pub free : is_off (slice_get plain o.place) ≡ true
   pub name : is_identifier_name o.name ≡ true
+  pub short : IsShort o.name
+
+below : (n m : ℕ) → nat_lt n m ≡ true → n < m
+below n m h = search (arith, h)
 
 fits_place : (plain : List Bool) (n : ℕ) (o : OldName) → name_fits plain n o ≡ true → FitsPlace plain o
 unfolding is_old_name name_fits
 fits_place plain n o h =
     let a = both _ (is_old_name o.name) h in
     let b = both _ (is_off (slice_get plain o.place)) a.0 in
-    record { free = b.1; name = (both _ (is_identifier_name o.name) a.1).1 }
+    let c = both (nat_lt (length o.name) (2 ^ 32)) (is_identifier_name o.name) a.1 in
+    record { free = b.1; name = c.1; short = below (length o.name) (2 ^ 32) c.0 }
 
 -- of each name of a list that fits
 pub all_fit : (plain : List Bool) (n : ℕ) (os : List OldName) → names_fit plain n os ≡ true → AllByRecursion (FitsPlace plain) os
@@ -124,3 +130,15 @@ texts_named plain (s ∷ ss) (o ∷ os) a e =
 pub texts_are_identifiers : {Z : Type 0} (plain : List Bool) (ss : List (String Z)) (os : List OldName) → names_fit plain 0 os ≡ true → map string_bytes ss ≡ map (λ o. o.name) os
     → AllByRecursion (λ s. IsTrue (is_identifier_name (string_bytes s))) ss
 texts_are_identifiers plain ss os h e = texts_named plain ss os (all_fit plain 0 os h) e
+
+texts_short : {Z : Type 0} (plain : List Bool) (ss : List (String Z)) (os : List OldName) → AllByRecursion (FitsPlace plain) os → map string_bytes ss ≡ map (λ o. o.name) os
+    → AllByRecursion (λ s. length (string_bytes s) < 2 ^ 32) ss
+texts_short plain [] os a e = tt
+texts_short plain (s ∷ ss) [] a e = absurd (cc)
+texts_short plain (s ∷ ss) (o ∷ os) a e =
+    let same : string_bytes s ≡ o.name = cc in
+    (subst IsShort (sym same) (a.0).short, texts_short plain ss os a.1 (cc))
+
+pub texts_are_short : {Z : Type 0} (plain : List Bool) (ss : List (String Z)) (os : List OldName) → names_fit plain 0 os ≡ true → map string_bytes ss ≡ map (λ o. o.name) os
+    → AllByRecursion (λ s. length (string_bytes s) < 2 ^ 32) ss
+texts_are_short plain ss os h e = texts_short plain ss os (all_fit plain 0 os h) e

@@ -9,4 +9,5 @@ pub mod Sides
 pub mod Spots
 pub mod Choices
 pub mod Kept
+pub mod Heads
 pub mod Views

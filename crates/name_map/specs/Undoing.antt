@@ -1,6 +1,6 @@
 -- What undoes a renaming, as data. Places, and Properties, have numbers from 0 in printing order.
 use Rattle.std.specs.Coded.{Coded, code_by, coded×, coded_list, coded_ℕ}
-use Rattle.std.specs.Prelude.{ℕ, zero, suc, ◌<◌, ◌^◌, Bool, true, false, not, ◌&&◌, List, [], ◌∷◌, bytes_eq, IsUtf8, length, slice_set, if◌then◌else◌, refl}
+use Rattle.std.specs.Prelude.{ℕ, zero, suc, ◌<◌, ◌^◌, Bool, true, false, not, ◌&&◌, List, [], ◌∷◌, bytes_eq, IsUtf8, slice_set, if◌then◌else◌, refl}
 use Rattle.tree_nodes.specs.Tree.{Text}
 
 -- the name that the place with this number had
@@ -18,10 +18,6 @@ IsSized i = i < 2 ^ 32
 -- as one that is listed: its number has 32 bits, and its name is in UTF-8
 abbrev pub IsOldName : OldName → Type 0
 IsOldName o = IsSized o.place × IsUtf8 o.name
-
--- short enough for a map: at most 4,294,967,295 bytes
-abbrev pub IsShort : OldName → Type 0
-IsShort o = length o.name < 2 ^ 32
 
 -- the old names, and the numbers of the Properties whose shorthand mark was on
 pub record Undoing : Type 0 where

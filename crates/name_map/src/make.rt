@@ -7,8 +7,9 @@ ghost use Rattle.name_map.specs.Filled.{apply_map};
 ghost use Rattle.name_map.specs.Kept as spec;
 ghost use Rattle.name_map.specs.Made.{IsMapOf};
 ghost use Rattle.name_map.specs.Sides.{AreSides};
-ghost use Rattle.name_map.specs.Undoing.{IsOldName, IsShort, differing, old_name, taken_off};
+ghost use Rattle.name_map.specs.Undoing.{IsOldName, IsSized, differing, old_name, taken_off};
 ghost use Rattle.name_map.specs.Written.{IsMap};
+ghost use Rattle.tree_core.specs.Program.{IsProgram};
 ghost use Rattle.tree_nodes.specs.Tree.{alone};
 ghost use Rattle.tree_places.specs.Renaming.{IsRenamed};
 
@@ -87,18 +88,17 @@ fn keeps_marks(before: &[bool], after: &[Pair]) -> bool
     true
 }
 
-// Appends the name that the i-th place had, where it has another. Err is want of memory, which a name or a
-// number too large for a map counts as.
+// Appends the name that the i-th place had, where it has another. Err is want of memory, which a number too
+// large for a map counts as.
 fn list_name(names: &mut PlaceNames, i: usize, before: &str, after: &str) -> Result<(), AllocError>
     ensures names { IfOk result (λ _. names.new
         ≡ names.old ++ (if bytes_eq before.now after.now then [] else old_name i before.now ∷ [])) }
-    ensures short { IfOk result (λ _. AllByRecursion IsShort names.old → AllByRecursion IsShort names.new) }
     ensures sized { IfOk result (λ _. AllByRecursion IsOldName names.old → AllByRecursion IsOldName names.new) }
 {
     if before == after {
         return Ok(());
     }
-    if i > 0xFFFF_FFFF || before.len() > 0xFFFF_FFFF {
+    if i > 0xFFFF_FFFF {
         return Err(AllocError);
     }
     names.push(i as u32, before)
@@ -107,7 +107,6 @@ fn list_name(names: &mut PlaceNames, i: usize, before: &str, after: &str) -> Res
 // The names that differ, as they were.
 fn differing_names(alloc: Global, before: &[&str], after: &[&str]) -> Result<PlaceNames, AllocError>
     ensures names { IfOk result (λ ns. ns ≡ differing 0 (map (λ x. x.now) before.now) (map (λ x. x.now) after.now)) }
-    ensures short { IfOk result (λ ns. AllByRecursion IsShort ns) }
     ensures sized { IfOk result (λ ns. AllByRecursion IsOldName ns) }
 {
     let mut names = PlaceNames::new(alloc);
@@ -119,10 +118,13 @@ fn differing_names(alloc: Global, before: &[&str], after: &[&str]) -> Result<Pla
     Ok(names)
 }
 
-// Appends the number of a mark that was on and no longer is.
+// Appends the number of a mark that was on and no longer is. Err is want of memory, which a number too large for
+// a map counts as.
+#[tactic(auto, using(crate::proofs::KeptSteps::sized_more))]
 fn list_mark(marks: &mut Vec<u32>, i: usize, before: bool, after: bool) -> Result<(), AllocError>
-    ensures { IfOk result (λ _. marks.new.items
+    ensures taken { IfOk result (λ _. marks.new.items
         ≡ marks.old.items ++ (if before && not after then i ∷ [] else [])) }
+    ensures sized { IfOk result (λ _. AllByRecursion IsSized marks.old.items → AllByRecursion IsSized marks.new.items) }
 {
     if before && !after {
         if i > 0xFFFF_FFFF {
@@ -135,7 +137,8 @@ fn list_mark(marks: &mut Vec<u32>, i: usize, before: bool, after: bool) -> Resul
 
 // The marks that were on and no longer are.
 fn marks_taken(alloc: Global, before: &[bool], after: &[Pair]) -> Result<Vec<u32>, AllocError>
-    ensures { IfOk result (λ ns. ns.items ≡ taken_off 0 before.now (map (λ p. p.marked) after.now)) }
+    ensures taken { IfOk result (λ ns. ns.items ≡ taken_off 0 before.now (map (λ p. p.marked) after.now)) }
+    ensures sized { IfOk result (λ ns. AllByRecursion IsSized ns.items) }
 {
     let mut marks = Vec::new(alloc);
     for i in 0..before.len() {
@@ -169,6 +172,12 @@ fn list_sides<'t>(
     })
 }
 
+fn all_three(a: bool, b: bool, c: bool) -> bool
+    ensures { result ≡ (a && b && c) }
+{
+    a && b && c
+}
+
 // Whether the second program is the first renamed: it is, under the first's names and marks, the first; it has
 // the first's plain names; and its marks are on where they were and the names of key and value agree.
 fn is_renamed(
@@ -178,7 +187,8 @@ fn is_renamed(
     sides: &Sides<'_>,
 ) -> Result<bool, AllocError>
     requires { AreSides before.now after.now sides.now }
-    ensures { IfOk result (λ b. IsTrue b ↔ IsRenamed (alone before.now) (alone after.now)) }
+    ensures told { IfOk result (λ b. IsTrue b ↔ IsRenamed (alone before.now) (alone after.now)) }
+    ensures program { IfOk result (λ _. IsProgram before.now) }
 {
     let names = sides.before.names.as_slice();
     let marks = sides.marks.as_slice();
@@ -190,13 +200,12 @@ fn is_renamed(
         sides.after.names.as_slice(),
     );
     let marked = keeps_marks(marks, sides.pairs.as_slice());
-    Ok(same && plain && marked)
+    Ok(all_three(same, plain, marked))
 }
 
 /// The map that undoes a renaming: the old names of the places whose names differ, and the Properties whose
 /// shorthand mark was taken off. It fits the second program, and `restore` gives back the first by it.
-/// `NotRenamed` comes exactly where the second program is not the first renamed; `Memory` also where a name that
-/// differs has more than 4,294,967,295 bytes.
+/// `NotRenamed` comes exactly where the second program is not the first renamed.
 pub fn make_map(alloc: Global, before: &Program, after: &Program) -> Result<NameMap, MapError>
     ensures made { IfOk result (λ m. IsMapOf before.now after.now m) }
     ensures sized { IfOk result (λ m. IsMap m) }

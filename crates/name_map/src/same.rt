@@ -1,6 +1,7 @@
 //! Whether two trees are the same.
 
 ghost use Rattle.std.specs.Prelude.{◌≡◌, ◌↔◌, IsTrue};
+ghost use Rattle.name_map.specs.Heads.{same_heads};
 ghost use Rattle.tree_nodes.specs.Tree as tree;
 ghost use Rattle.tree_nodes.specs.Tree.{alone, atom, done, many};
 ghost use Rattle.tree_nodes.specs.Views.{part_of};
@@ -79,15 +80,22 @@ fn is_list(field: &Field, nodes: &NodeList) -> bool
     }
 }
 
+// Whether two nodes are of one kind and stand at one place.
+fn same_heads(a: &Node, b: &Node) -> bool
+    ensures { result ≡ same_heads a.now b.now }
+{
+    a.kind.number() == b.kind.number() && a.start == b.start && a.end == b.end
+}
+
 /// Whether two nodes, with all below them, are the same.
 #[cycle(same)]
 pub(crate) fn same_node(a: &Node, b: &Node) -> bool
     ensures { IsTrue result ↔ (a.now ≡ b.now) }
 {
-    a.kind.number() == b.kind.number()
-        && a.start == b.start
-        && a.end == b.end
-        && same_fields(&a.fields, &b.fields)
+    if !same_heads(a, b) {
+        return false;
+    }
+    same_fields(&a.fields, &b.fields)
 }
 
 #[cycle(same)]
