@@ -38,7 +38,7 @@ pub lent_next : {X Y : Type 0} (f : X → Y) (xs : List X) (i : ℕ) (x : X) →
 lent_next f xs i x h e = lent_from f xs i x h e ∙ ap (λ j. f x ∷ drop j (map f xs)) (one_more i)
 
 pub mapped_past : {X Y : Type 0} (f : X → Y) (xs : List X) (i : ℕ) → length xs ≤ i → drop i (map f xs) ≡ []
-mapped_past f xs i h = drop_all i (map f xs) (omega (arith, h, length-map f xs))
+mapped_past f xs i h = drop_all i (map f xs) (omega (arith, h, length-map xs f))
 
 pub next_at : {X : Type 0} (xs : List X) (i : ℕ) (d : X) → i < length xs → drop i xs ≡ get_or xs i d ∷ drop (i + 1) xs
 next_at xs i d h = drop-cons xs i d h ∙ ap (λ j. get_or xs i d ∷ drop j xs) (one_more i)

@@ -166,7 +166,7 @@ module _ (t u : Tree) (m : Undoing) (made : IsMapOf t u m) where
   -- and fits the other
   pub made_fits : IsProgram t → Fits u m
   made_fits p =
-      let long : length (map is_plain (sites (alone t))) ≡ length (sites (alone t)) = length-map is_plain (sites (alone t)) in
+      let long : length (map is_plain (sites (alone t))) ≡ length (sites (alone t)) = length-map (sites (alone t)) is_plain in
       record {
         names = ap₂ (λ ps os. names_fit ps 0 os) same_plain made.names
             ∙ differing_fit (plain_places t) (names (alone t)) (names (alone u)) (one_name_each (alone t) ∙ sym long) (as_many_names (alone t) (alone u) (made.renamed).alike ∙ sym long)

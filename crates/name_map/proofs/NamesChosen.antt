@@ -1,5 +1,6 @@
 -- Choices that give the names of a list to its places.
 use Rattle.std.proofs.Common.{◌≡◌, ℕ, zero, suc, ◌+◌, ◌<◌, ◌≤◌, ◌^◌, nat_lt, Bool, true, false, not, ◌&&◌, ◌||◌, List, [], ◌∷◌, length, map, drop, replicate, Option, Some, None, is_some, slice_get, slice_set, String, IsTrue, string_bytes, refl, sym, ap, ap₂, subst, ◌∙◌, arith}
+use Rattle.std.proofs.lemmas.Bool.{ltb-true}
 use Rattle.std.proofs.lemmas.List.{length-map, length-replicate, length-set}
 use Rattle.std.specs.List.{AllByRecursion}
 use Rattle.name_map.specs.Choices.{choose}
@@ -21,7 +22,7 @@ pub record FitsPlace (plain : List Bool) (o : OldName) : Type 0 where
   pub short : IsShort o.name
 
 below : (n m : ℕ) → nat_lt n m ≡ true → n < m
-below n m h = search (arith, h)
+below n m h = ltb-true n m h
 
 fits_place : (plain : List Bool) (n : ℕ) (o : OldName) → name_fits plain n o ≡ true → FitsPlace plain o
 unfolding is_old_name name_fits
@@ -116,7 +117,7 @@ spares ss n os h = spare_names ss 0 os (replicate n None) (all_fit (map is_plain
 pub gives : (ss : List Site) (n : ℕ) (os : List OldName) (given xs : List Text) → names_fit (map is_plain ss) 0 os ≡ true → given ≡ map (λ o. o.name) os → n ≡ length ss
     → chosen given (choose 0 os (replicate n None)) xs ≡ put_names os xs
 gives ss n os given xs h e l =
-    chosen_names (map is_plain ss) given 0 os (replicate n None) xs (all_fit (map is_plain ss) 0 os h) e (length-replicate n None ∙ l ∙ sym (length-map is_plain ss))
+    chosen_names (map is_plain ss) given 0 os (replicate n None) xs (all_fit (map is_plain ss) 0 os h) e (length-replicate n None ∙ l ∙ sym (length-map ss is_plain))
     ∙ ap (put_names os) (chosen_none given n xs)
 
 texts_named : {Z : Type 0} (plain : List Bool) (ss : List (String Z)) (os : List OldName) → AllByRecursion (FitsPlace plain) os → map string_bytes ss ≡ map (λ o. o.name) os

@@ -95,7 +95,7 @@ module _ (t u : Parts) (alike : blind u ≡ blind t) where
   as_many_marks = length_marks t ∙ sym (properties_blind t) ∙ ap properties (sym alike) ∙ properties_blind u ∙ sym (length_marks u)
 
   pub as_many_pairs : length (marks t) ≡ length (pairs u)
-  as_many_pairs = as_many_marks ∙ ap length (sym (pairs_marks u)) ∙ length-map (λ (p : Pair). p.marked) (pairs u)
+  as_many_pairs = as_many_marks ∙ ap length (sym (pairs_marks u)) ∙ length-map (pairs u) (λ (p : Pair). p.marked)
 
 -- ---- the facts
 

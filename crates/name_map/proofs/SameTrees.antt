@@ -24,9 +24,6 @@ told_same x y e = (λ _. e, λ _. refl)
 some_inside : {A : Type 0} (x y : A) → Some x ≡ Some y → x ≡ y
 some_inside x y e = cc
 
-pub alone_same : (t u : Tree) → alone t ≡ alone u → t ≡ u
-alone_same t u e = cc
-
 -- runs that differ in a part differ
 pub parts_apart : (ps qs : Parts) (i : ℕ) (p q : Parts) → Some p ≡ part_at ps i → Some q ≡ part_at qs i → (p ≡ q → ⊥) → ps ≡ qs → ⊥
 parts_apart ps qs i p q e f h same = h (some_inside p q (e ∙ ap (λ xs. part_at xs i) same ∙ sym f))
@@ -83,11 +80,14 @@ no_item (many items rest) (suc i) e = let l = no_item rest i e in omega (arith, 
 
 -- ---- nodes
 
+abbrev made : Kind → ℕ → ℕ → Parts → Tree
+made k s e p = record { kind = k; start = s; stop = e; fields = p }
+
 tree_same : (t u : Tree) → t.kind ≡ u.kind → t.start ≡ u.start → t.stop ≡ u.stop → t.fields ≡ u.fields → t ≡ u
-tree_same t u a b d e =
-    let first : t ≡ record { kind = u.kind; start = u.start; stop = t.stop; fields = t.fields } =
-    ap₂ (λ k s. record { kind = k; start = s; stop = t.stop; fields = t.fields }) a b in
-    first ∙ ap₂ (λ s f. record { kind = u.kind; start = u.start; stop = s; fields = f }) d e
+tree_same t u a b d e = ap₂ (λ k s. made k s t.stop t.fields) a b ∙ ap₂ (made u.kind u.start) d e
+
+pub alone_same : (t u : Tree) → alone t ≡ alone u → t ≡ u
+alone_same t u e = tree_same t u (cc) (cc) (cc) (cc)
 
 pub other_heads : (t u : Tree) → same_heads t u ≡ false → IsTrue false ↔ (t ≡ u)
 other_heads t u h = told_apart t u (λ e. true≢false (sym (own_heads u) ∙ ap (λ x. same_heads x u) (sym e) ∙ h))

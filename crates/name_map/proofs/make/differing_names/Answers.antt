@@ -15,10 +15,10 @@ loop-i-preserved c =
     let x = c.in-Some.x.now in
     let y = c.in-Some-get.y.now in
     let below : c.loop-i.i < length c.args.before.now = c.loop-i-test.true in
-    let within : c.loop-i.i < length c.args.after.now = grind (arith, c.in-Some-get.ensures.variant) in (
+    let within : c.loop-i.i < length c.args.after.now = c.in-Some-get.ensures.lookup.3.0 in (
       differing_next (texts c.args.before.now) (texts c.args.after.now) c.loop-i.i c.loop-i.names c.loop-i.invariant.0 x.now y.now c.list_name.new.names
-          (lent_next now_of c.args.before.now c.loop-i.i x below c.in-Some.ensures.value)
-          (lent_next now_of c.args.after.now c.loop-i.i y within c.in-Some-get.ensures.value)
+          (lent_next now_of c.args.before.now c.loop-i.i x below c.in-Some.ensures.lookup.1)
+          (lent_next now_of c.args.after.now c.loop-i.i y within c.in-Some-get.ensures.lookup.1)
           c.in_ok-list_name.ensures.names,
       c.in_ok-list_name.ensures.sized c.loop-i.invariant.1,
     )
@@ -28,10 +28,10 @@ returns-clause-names c = elim c.loop-i-test.branch [
   | else-loop-i-test w ↦
       differing_all (texts c.args.before.now) (texts c.args.after.now) c.loop-i.i c.loop-i.names c.loop-i.invariant.0 (mapped_past now_of c.args.before.now c.loop-i.i w.loop-i-test.false)
   | then-loop-i-test+in_default w ↦
-      let over : length c.args.before.now ≤ c.loop-i.i = grind (arith, w.in_default.ensures.variant) in
+      let over : length c.args.before.now ≤ c.loop-i.i = w.in_default.ensures.lookup.3 in
       differing_all (texts c.args.before.now) (texts c.args.after.now) c.loop-i.i c.loop-i.names c.loop-i.invariant.0 (mapped_past now_of c.args.before.now c.loop-i.i over)
   | then-loop-i-test+in-Some+in_default-get w ↦
-      let over : length c.args.after.now ≤ c.loop-i.i = grind (arith, w.in_default-get.ensures.variant) in
+      let over : length c.args.after.now ≤ c.loop-i.i = w.in_default-get.ensures.lookup.3 in
       differing_past (texts c.args.before.now) (texts c.args.after.now) c.loop-i.i c.loop-i.names c.loop-i.invariant.0 (mapped_past now_of c.args.after.now c.loop-i.i over)
 ]
 

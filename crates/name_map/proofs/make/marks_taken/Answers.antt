@@ -10,10 +10,10 @@ marked_in p = p.marked
 
 pub loop-i-preserved : goal.loop-i-preserved
 loop-i-preserved c =
-    let within : c.loop-i.i < length c.args.after.now = grind (arith, c.in-Some.ensures.variant) in (
+    let within : c.loop-i.i < length c.args.after.now = c.in-Some.ensures.lookup.3.0 in (
       taken_next c.args.before.now (map marked_in c.args.after.now) c.loop-i.i c.loop-i.marks.items c.loop-i.invariant.0 (get_or c.args.before.now c.loop-i.i false) c.in-Some.pair.now.marked c.list_mark.new.marks.items
           (next_at c.args.before.now c.loop-i.i false c.loop-i-test.true)
-          (lent_next marked_in c.args.after.now c.loop-i.i c.in-Some.pair.now within c.in-Some.ensures.value)
+          (lent_next marked_in c.args.after.now c.loop-i.i c.in-Some.pair.now within c.in-Some.ensures.lookup.1)
           c.in_ok-list_mark.ensures.taken,
       c.in_ok-list_mark.ensures.sized c.loop-i.invariant.1,
     )
@@ -23,7 +23,7 @@ returns-clause-taken c = elim c.loop-i-test.branch [
   | else-loop-i-test w ↦
       taken_all c.args.before.now (map marked_in c.args.after.now) c.loop-i.i c.loop-i.marks.items c.loop-i.invariant.0 (past_end c.args.before.now c.loop-i.i w.loop-i-test.false)
   | then-loop-i-test+in_default w ↦
-      let over : length c.args.after.now ≤ c.loop-i.i = grind (arith, w.in_default.ensures.variant) in
+      let over : length c.args.after.now ≤ c.loop-i.i = w.in_default.ensures.lookup.3 in
       taken_past c.args.before.now (map marked_in c.args.after.now) c.loop-i.i c.loop-i.marks.items c.loop-i.invariant.0 (mapped_past marked_in c.args.after.now c.loop-i.i over)
 ]
 

@@ -41,7 +41,7 @@ returns-clause-names c =
     let texts : given ≡ map (λ o. o.name) c.args.names.now = ap (map string_bytes) c.as_slice-2.ensures.value ∙ c.in_ok-texts.ensures in
     let choices : c.as_slice.result.now ≡ choose 0 c.args.names.now (replicate c.len.result None) = c.as_slice.ensures.value ∙ c.in_ok-choices.ensures in
     let plain : length c.in_ok-spots.spots.plain.items ≡ length (plain_places t) = ap length (c.in_ok-spots.ensures.plain ∙ ap plain_places c.root.ensures.root) in
-    let long : length (plain_places t) ≡ length (sites (alone t)) = length-map is_plain (sites (alone t)) in
+    let long : length (plain_places t) ≡ length (sites (alone t)) = length-map (sites (alone t)) is_plain in
     let all : c.len.result ≡ length (sites (alone t)) = omega (arith, c.len.ensures, c.in_ok-spots.spots.plain.ok.0, plain, long) in
     if_ok_also c.rename.result
     (λ w e. e ∙ ap (λ (x : Tree). chosen given c.as_slice.result.now (names (alone x))) same

@@ -1,4 +1,4 @@
-use Rattle.std.proofs.Common.{◌≡◌, ◌∙◌, ◌≤◌, ◌↔◌, IsTrue, None, Some, ap, ap₂, refl, subst, sym, true≢false, arith}
+use Rattle.std.proofs.Common.{◌≡◌, ◌∙◌, ◌≤◌, ◌↔◌, IsTrue, None, Some, ap, ap₂, refl, subst, sym, true, true≢false, arith}
 use Rattle.name_map.proofs.SameTrees.{alone_same, items_apart, items_next, many_inside, no_child, no_item, no_list, no_part, no_tree, one_length, other_heads, other_lengths, parts_apart, parts_next, some_same, told_apart, told_by_fields, told_inside}
 use Rattle.name_map.specs.Heads.{same_heads}
 use Rattle.tree_nodes.specs.Look.{parts_len}
@@ -9,7 +9,8 @@ use Rattle.name_map.proofs.same.+same.Goals as goal
 pub is_child-returns-in-Child : goal.is_child-returns-in-Child
 is_child-returns-in-Child t c =
     rw c.in-Child.is
-    (told_inside alone c.args.node.now c.deref.result.now c.same_node.result (alone_same c.args.node.now c.deref.result.now) c.same_node.ensures)
+    (subst (λ (u : Tree). IsTrue c.same_node.result ↔ (alone c.args.node.now ≡ alone u)) c.deref.ensures
+    (told_inside alone c.args.node.now c.deref.result.now c.same_node.result (alone_same c.args.node.now c.deref.result.now) c.same_node.ensures))
 
 pub is_child-returns-in_default : goal.is_child-returns-in_default
 is_child-returns-in_default t c = no_child c.args.field.now c.args.node.now c.in_default.not-Child
@@ -53,6 +54,9 @@ same_fields-returns-then-not-same_field t c =
     (parts_apart c.args.a.now c.args.b.now c.loop-i.i (part_of c.in-Some.x.now) (part_of c.in-Some-get.y.now) c.in-Some.ensures.part c.in-Some-get.ensures.part
     (λ e. true≢false (sym (c.same_field.ensures.1 e) ∙ c.if-not-same_field.true)))
 
+pub same_fields-loop-i-init : goal.same_fields-loop-i-init
+same_fields-loop-i-init t c = λ e. e
+
 pub same_fields-loop-i-preserved : goal.same_fields-loop-i-preserved
 same_fields-loop-i-preserved t c =
     parts_next c.args.a.now c.args.b.now c.loop-i.i c.loop-i.invariant (part_of c.in-Some.x.now) (part_of c.in-Some-get.y.now) c.in-Some.ensures.part c.in-Some-get.ensures.part
@@ -81,6 +85,9 @@ same_list-returns-then-not-same_item t c =
     told_apart c.args.a.now c.args.b.now
     (items_apart c.args.a.now c.args.b.now c.loop-i.i c.in-Some.x.now c.in-Some-get.y.now c.in-Some.ensures.item c.in-Some-get.ensures.item
     (λ e. true≢false (sym (c.same_item.ensures.1 e) ∙ c.if-not-same_item.true)))
+
+pub same_list-loop-i-init : goal.same_list-loop-i-init
+same_list-loop-i-init t c = λ e. e
 
 pub same_list-loop-i-preserved : goal.same_list-loop-i-preserved
 same_list-loop-i-preserved t c =
