@@ -179,8 +179,7 @@ filled_program g u p a b l placed =
     let w = filled_tree g u in
     let formed = (program_formed u p).0 in
     let alike : blind (alone w) ≡ blind (alone u) = filled_alike g (alone u) formed in
-    let new = tree_fits_alike w u alike formed (filled_named g (alone u) formed a l) (tree_fits (value_of u) u p.0) in
-    (
+    let new = tree_fits_alike w u alike formed (filled_named g (alone u) formed a l) (tree_fits (value_of u) u p.0) in (
       tree_of-placed (value_of w) w (tree_back w new).0 placed,
       subst (λ k. k < 2 ^ 30) (sym (counts g u)) p.1,
       subst (λ k. k < 2 ^ 30) (sym (as_wide g u)) p.2,
