@@ -36,14 +36,17 @@ maps_read_back m h =
 
 -- ---- its text
 
+short_number : (n : ℕ) → n < 2 ^ 32 → n < 10 ^ 64
+short_number n h = omega arith
+
 old_names_have_text : (os : List OldName) → AllByRecursion IsOldName os → ItemsHaveText (old_names_value os)
 old_names_have_text [] h = tt
 old_names_have_text (o ∷ os) h =
-    let sized = (h.0).0 in ((omega (arith, sized), AreCodeUnits-units_of o.name (h.0).1, tt), old_names_have_text os h.1)
+    ((short_number o.place (h.0).0, AreCodeUnits-units_of o.name (h.0).1, tt), old_names_have_text os h.1)
 
 numbers_have_text : (is : List ℕ) → AllByRecursion IsSized is → ItemsHaveText (numbers_value is)
 numbers_have_text [] h = tt
-numbers_have_text (i ∷ is) h = let sized = h.0 in (omega (arith, sized), numbers_have_text is h.1)
+numbers_have_text (i ∷ is) h = (short_number i h.0, numbers_have_text is h.1)
 
 map_has_text : (m : Undoing) → IsMap m → HasText (map_value m)
 map_has_text m h = (
