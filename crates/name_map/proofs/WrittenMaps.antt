@@ -42,7 +42,7 @@ short_number n h = omega arith
 old_names_have_text : (os : List OldName) → AllByRecursion IsOldName os → ItemsHaveText (old_names_value os)
 old_names_have_text [] h = tt
 old_names_have_text (o ∷ os) h =
-    ((short_number o.place (h.0).0, AreCodeUnits-units_of o.name (h.0).1, tt), old_names_have_text os h.1)
+    ((short_number o.place (h.0).0, (AreCodeUnits-units_of o.name (h.0).1, tt)), old_names_have_text os h.1)
 
 numbers_have_text : (is : List ℕ) → AllByRecursion IsSized is → ItemsHaveText (numbers_value is)
 numbers_have_text [] h = tt
@@ -52,9 +52,7 @@ map_has_text : (m : Undoing) → IsMap m → HasText (map_value m)
 map_has_text m h = (
   AreCodeUnits-are_code_units (codes "names") refl,
   old_names_have_text m.names h.names,
-  AreCodeUnits-are_code_units (codes "marks") refl,
-  numbers_have_text m.marks h.marks,
-  tt,
+  (AreCodeUnits-are_code_units (codes "marks") refl, numbers_have_text m.marks h.marks, tt),
 )
 
 pub map_texts_read : MapTextsRead
