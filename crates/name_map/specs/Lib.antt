@@ -1,3 +1,13 @@
 pub mod Undoing
+pub mod Filled
+pub mod Fits
 pub mod Reading
 pub mod ReadError
+pub mod Written
+pub mod Made
+pub mod Sides
+pub mod Spots
+pub mod Choices
+pub mod Kept
+pub mod Heads
+pub mod Views

@@ -2,4 +2,10 @@
 #![tactic(auto)]
 
 #[cfg(test)]
+mod made;
+#[cfg(test)]
 mod maps;
+#[cfg(test)]
+mod programs;
+#[cfg(test)]
+mod restored;
