@@ -1,0 +1,2 @@
+pub mod ItemsOf
+pub mod NumbersAt

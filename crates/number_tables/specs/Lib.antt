@@ -1,0 +1,2 @@
+pub mod GroupsOf
+pub mod PlacedNumbers
