@@ -78,10 +78,27 @@ TREES = {
             module("labels_renamed", "let e = 1; e: { break e }"),
             module("discriminant", "switch (function (a) { return a }) { case 0: let x; x }"),
             module("discriminant_mangled", "switch (function (e) { return e }) { case 0: let e; e }"),
+            module("discriminant_by_two_names", "switch (function (e) { return e }) { case 0: let t; t }"),
+            module("function_in_case", "switch (0) { case 0: function f() {} f() } f"),
+            module("function_in_case_mangled", "switch (0) { case 0: function e() {} e() } f"),
+            module("function_in_case_seen_behind", "switch (0) { case 0: function e() {} e() } e"),
             module("using_declared", "{ using x = g(); x } { await using y = g(); y }"),
             module("using_declared_mangled", "{ using e = g(); e } { await using e = g(); e }"),
             module("catch_parameter", "try { f() } catch (error) { let a = error; a }"),
             module("catch_parameter_mangled", "try { f() } catch (e) { let t = e; t }"),
+            module("catch_without_parameter", "try { f() } catch { let a = 1; a }"),
+            module("catch_without_parameter_mangled", "try { f() } catch { let e = 1; e }"),
+            module("catch_without_parameter_by_global", "try { f() } catch { let f = 1; f }"),
+            module("for_head", "for (let a = 0; a;) { let b = a; b } a"),
+            module("for_head_mangled", "for (let e = 0; e;) { let t = e; t } a"),
+            module("for_head_by_one_name", "for (let e = 0; e;) { let e = e; e } a"),
+            module("for_head_seen_behind", "for (let e = 0; e;) { let t = e; t } e"),
+            module("for_in_head", "for (let a in o) a; a"),
+            module("for_in_head_mangled", "for (let e in o) e; a"),
+            module("for_in_head_unseen", "for (let e in o) a; a"),
+            module("for_of_head", "for (let a of a) a"),
+            module("for_of_head_mangled", "for (let e of e) e"),
+            module("for_of_head_unseen", "for (let e of a) e"),
         ],
     ),
     "Functions": (
@@ -122,6 +139,12 @@ TREES = {
             script("arguments_declared", "function f(arguments, a) { return arguments }"),
             script("arguments_declared_mangled", "function f(arguments, e) { return arguments }"),
             script("arguments_renamed", "function f(t, e) { return t }"),
+            module("new_target", "function f(target) { return new.target }"),
+            module("new_target_mangled", "function e(e) { return new.target }"),
+            module("new_target_renamed", "function e(e) { return new.e }"),
+            module("function_in_default", "function f(a, b = function (c) { return a }) {}"),
+            module("function_in_default_mangled", "function e(e, t = function (t) { return e }) {}"),
+            module("function_in_default_captured", "function e(e, t = function (e) { return e }) {}"),
             script(
                 "umd_wrapper",
                 "(function (root, factory) { root.lib = factory() })(this, function () { var count = 0; "
@@ -154,6 +177,35 @@ TREES = {
             module("imports", 'import { a } from "m"; a'),
             module("imports_mangled", 'import { a as e } from "m"; e'),
             module("imports_of_another_name", 'import { e } from "m"; e'),
+            module("passed_on", 'let a = 1; export { a as b } from "m"; a'),
+            module("passed_on_mangled", 'let e = 1; export { a as b } from "m"; e'),
+            module("passed_on_of_another_name", 'let e = 1; export { e as b } from "m"; e'),
+            module("all_passed_on", 'let a = 1; export * as a from "m"; a'),
+            module("all_passed_on_mangled", 'let e = 1; export * as a from "m"; e'),
+            module("all_passed_on_by_another_name", 'let e = 1; export * as e from "m"; e'),
+            module("attributes", 'import { a } from "m" with { a: "b" }; a'),
+            module("attributes_mangled", 'import { a as e } from "m" with { a: "b" }; e'),
+            module("attributes_renamed", 'import { a as e } from "m" with { e: "b" }; e'),
+            module("import_meta", "let meta = import.meta; meta"),
+            module("import_meta_mangled", "let e = import.meta; e"),
+            module("import_meta_renamed", "let e = import.e; e"),
+        ],
+    ),
+    "Classes": (
+        "Classes, their own names and static blocks.",
+        [
+            module("own_name", "let A = 1; (class A extends A { [A]() { return A } })"),
+            module("own_name_mangled", "let e = 1; (class e extends e { [e]() { return e } })"),
+            module("own_name_unseen_in_heritage", "let e = 1; (class t extends e { [t]() { return t } })"),
+            module("own_name_unseen_in_key", "let e = 1; (class t extends t { [e]() { return t } })"),
+            module("own_name_unseen_in_body", "let e = 1; (class t extends t { [t]() { return e } })"),
+            module("class_in_heritage", "class A extends (class B { m() { return A } }) {}"),
+            module("class_in_heritage_mangled", "class e extends (class t { m() { return e } }) {}"),
+            module("class_in_heritage_captured", "class e extends (class e { m() { return e } }) {}"),
+            module("block_in_class", "let x = 1; class A { static { var x = 2; x } } x"),
+            module("block_in_class_mangled", "let e = 1; class t { static { var e = 2; e } } e"),
+            module("block_in_class_by_three_names", "let e = 1; class t { static { var n = 2; n } } e"),
+            module("block_in_class_seen_behind", "let e = 1; class t { static { var n = 2; n } } n"),
         ],
     ),
     "PrivateNames": (
@@ -185,6 +237,10 @@ TREES = {
             ),
             module("heritage", "class A { #x; m(o) { return class extends o.#x { #x; } } }"),
             module("heritage_mangled", "class e { #e; m(e) { return class extends e.#e { #t; } } }"),
+            module("computed_key", "class A { #x; m(o) { return class { [o.#x]; #y; } } }"),
+            module("computed_key_mangled", "class e { #e; m(e) { return class { [e.#e]; #t; } } }"),
+            module("computed_key_captured", "class e { #e; m(e) { return class { [e.#e]; #e; } } }"),
+            module("computed_key_of_its_class", "class e { #e; m(e) { return class { [e.#t]; #t; } } }"),
             module("open_class", 'class A { #x; m() { eval("this.#x") } }'),
             module("open_class_renamed", 'class A { #e; m() { eval("this.#x") } }'),
             module(
@@ -386,7 +442,14 @@ class Parser:
             return "arrow_with_body", params, self.block()
         return "arrow", params, self.expression()
 
+    def meta_property(self):
+        meta = self.ident()
+        self.need(".")
+        return "meta_property", meta, self.ident()
+
     def primary(self):
+        if self.peek() in ("new", "import") and self.peek(1) == ".":
+            return self.meta_property()
         if self.peek() == "(" and self.is_arrow():
             return self.arrow()
         if self.eat("("):
@@ -439,11 +502,20 @@ class Parser:
 
     def class_member(self):
         static = ON if self.eat("static") else OFF
+        if static == ON and self.peek() == "{":
+            return "static_block", self.block()
+        if self.eat("["):
+            return self.computed_member()
         kind = self.take() if self.peek() in ("get", "set") and self.peek(1) != "(" else "method"
         key = self.key()
         if self.eat(";"):
             return "field", key
         return ("method", str(METHODS.index(kind)), static, key, *self.function_rest())
+
+    def computed_member(self):
+        key = self.expression()
+        self.need("]")
+        return ("computed_field", key) if self.eat(";") else ("computed_method", key, *self.function_rest())
 
     # statements
 
@@ -478,7 +550,9 @@ class Parser:
             return self.try_catch()
         if token == "with":
             return self.with_statement()
-        if token in ("import", "export"):
+        if token == "for":
+            return self.loop()
+        if token in ("import", "export") and after != ".":
             return self.export() if self.take() == "export" else self.imports()
         if self.is_name() and after == ":":
             return "labeled", self.ident(), self.after_colon()
@@ -541,7 +615,25 @@ class Parser:
         self.take()
         tried = self.block()
         self.need("catch")
-        return "try_catch", tried, self.in_parentheses(self.pattern), self.block()
+        pattern = self.in_parentheses(self.pattern) if self.peek() == "(" else NULL
+        return "try_catch", tried, pattern, self.block()
+
+    def loop(self):
+        """A loop over what its head declares, by one declaration."""
+        self.take()
+        self.need("(")
+        kind, pattern = self.take(), self.pattern()
+        if self.peek() in ("in", "of"):
+            maker, value = "for_" + self.take(), NULL
+            rest = [self.expression()]
+        else:
+            maker, value = "for_loop", self.expression() if self.eat("=") else NULL
+            self.need(";")
+            rest = [self.expression(), NULL]
+            self.need(";")
+        self.need(")")
+        head = "declaration", str(KINDS.index(kind)), [("declarator", pattern, value)]
+        return (maker, head, *rest, self.statement())
 
     def with_statement(self):
         self.take()
@@ -551,20 +643,36 @@ class Parser:
         name = self.ident()
         return name, self.ident() if self.eat("as") else name
 
+    def source(self):
+        self.need("from")
+        return self.string()
+
     def export(self):
-        if not self.eat("{"):
+        if self.eat("*"):
+            self.need("as")
+            made = ("export_all", self.ident(), self.source())
+        elif self.eat("{"):
+            names = [("exported", *pair) for pair in self.listed(self.specifier, "}")]
+            made = ("export_from", names, self.source()) if self.peek() == "from" else ("export_names", names)
+        else:
             return "export", self.statement()
-        names = self.listed(self.specifier, "}")
         self.eat(";")
-        return "export_names", [("exported", *pair) for pair in names]
+        return made
+
+    def attribute(self):
+        key = self.ident()
+        self.need(":")
+        return "attribute", key, self.string()
 
     def imports(self):
         self.need("{")
-        names = self.listed(self.specifier, "}")
-        self.need("from")
-        source = self.string()
+        names = [("imported", *pair) for pair in self.listed(self.specifier, "}")]
+        source, attributes = self.source(), []
+        if self.eat("with"):
+            self.need("{")
+            attributes = self.listed(self.attribute, "}")
         self.eat(";")
-        return "import_from", [("imported", *pair) for pair in names], source
+        return "import_from", names, source, attributes
 
 
 def tree(source_type, text):

@@ -1,7 +1,7 @@
 -- Declarations in modules and blocks. Made by tools/worked_examples.py.
 use Rattle.std.specs.Prelude.{[], ◌∷◌, codes}
 use Rattle.tree_nodes.specs.Tree.{Parts}
-use Rattle.worked_examples.specs.Makers.{block, call, case, declaration, declarator, default_at, function_expression, gives_back, ident, labeled, leave, module_of, null, number, object, object_pattern, property, shorthand, statement, switch, try_catch}
+use Rattle.worked_examples.specs.Makers.{block, call, case, declaration, declarator, default_at, for_in, for_loop, for_of, function, function_expression, gives_back, ident, labeled, leave, module_of, null, number, object, object_pattern, property, shorthand, statement, switch, try_catch}
 
 -- module: let x = 1; x
 abbrev pub acorn_module : Parts
@@ -383,6 +383,37 @@ discriminant_mangled =
     (switch (function_expression null (ident (codes "e") ∷ []) (gives_back (ident (codes "e")) ∷ [])) (case (number 0 (codes "0")) (declaration 1 (declarator (ident (codes "e")) null ∷ []) ∷ statement (ident (codes "e")) ∷ []) ∷ [])
     ∷ [])
 
+-- module: switch (function (e) { return e }) { case 0: let t; t }
+abbrev pub discriminant_by_two_names : Parts
+discriminant_by_two_names =
+    module_of
+    (switch (function_expression null (ident (codes "e") ∷ []) (gives_back (ident (codes "e")) ∷ [])) (case (number 0 (codes "0")) (declaration 1 (declarator (ident (codes "t")) null ∷ []) ∷ statement (ident (codes "t")) ∷ []) ∷ [])
+    ∷ [])
+
+-- module: switch (0) { case 0: function f() {} f() } f
+abbrev pub function_in_case : Parts
+function_in_case =
+    module_of
+    (switch (number 0 (codes "0")) (case (number 0 (codes "0")) (function (ident (codes "f")) [] [] ∷ statement (call (ident (codes "f")) []) ∷ []) ∷ [])
+    ∷ statement (ident (codes "f"))
+    ∷ [])
+
+-- module: switch (0) { case 0: function e() {} e() } f
+abbrev pub function_in_case_mangled : Parts
+function_in_case_mangled =
+    module_of
+    (switch (number 0 (codes "0")) (case (number 0 (codes "0")) (function (ident (codes "e")) [] [] ∷ statement (call (ident (codes "e")) []) ∷ []) ∷ [])
+    ∷ statement (ident (codes "f"))
+    ∷ [])
+
+-- module: switch (0) { case 0: function e() {} e() } e
+abbrev pub function_in_case_seen_behind : Parts
+function_in_case_seen_behind =
+    module_of
+    (switch (number 0 (codes "0")) (case (number 0 (codes "0")) (function (ident (codes "e")) [] [] ∷ statement (call (ident (codes "e")) []) ∷ []) ∷ [])
+    ∷ statement (ident (codes "e"))
+    ∷ [])
+
 -- module: { using x = g(); x } { await using y = g(); y }
 abbrev pub using_declared : Parts
 using_declared =
@@ -411,4 +442,102 @@ abbrev pub catch_parameter_mangled : Parts
 catch_parameter_mangled =
     module_of
     (try_catch (statement (call (ident (codes "f")) []) ∷ []) (ident (codes "e")) (declaration 1 (declarator (ident (codes "t")) (ident (codes "e")) ∷ []) ∷ statement (ident (codes "t")) ∷ [])
+    ∷ [])
+
+-- module: try { f() } catch { let a = 1; a }
+abbrev pub catch_without_parameter : Parts
+catch_without_parameter =
+    module_of
+    (try_catch (statement (call (ident (codes "f")) []) ∷ []) null (declaration 1 (declarator (ident (codes "a")) (number 1 (codes "1")) ∷ []) ∷ statement (ident (codes "a")) ∷ [])
+    ∷ [])
+
+-- module: try { f() } catch { let e = 1; e }
+abbrev pub catch_without_parameter_mangled : Parts
+catch_without_parameter_mangled =
+    module_of
+    (try_catch (statement (call (ident (codes "f")) []) ∷ []) null (declaration 1 (declarator (ident (codes "e")) (number 1 (codes "1")) ∷ []) ∷ statement (ident (codes "e")) ∷ [])
+    ∷ [])
+
+-- module: try { f() } catch { let f = 1; f }
+abbrev pub catch_without_parameter_by_global : Parts
+catch_without_parameter_by_global =
+    module_of
+    (try_catch (statement (call (ident (codes "f")) []) ∷ []) null (declaration 1 (declarator (ident (codes "f")) (number 1 (codes "1")) ∷ []) ∷ statement (ident (codes "f")) ∷ [])
+    ∷ [])
+
+-- module: for (let a = 0; a;) { let b = a; b } a
+abbrev pub for_head : Parts
+for_head =
+    module_of
+    (for_loop (declaration 1 (declarator (ident (codes "a")) (number 0 (codes "0")) ∷ [])) (ident (codes "a")) null (block (declaration 1 (declarator (ident (codes "b")) (ident (codes "a")) ∷ []) ∷ statement (ident (codes "b")) ∷ []))
+    ∷ statement (ident (codes "a"))
+    ∷ [])
+
+-- module: for (let e = 0; e;) { let t = e; t } a
+abbrev pub for_head_mangled : Parts
+for_head_mangled =
+    module_of
+    (for_loop (declaration 1 (declarator (ident (codes "e")) (number 0 (codes "0")) ∷ [])) (ident (codes "e")) null (block (declaration 1 (declarator (ident (codes "t")) (ident (codes "e")) ∷ []) ∷ statement (ident (codes "t")) ∷ []))
+    ∷ statement (ident (codes "a"))
+    ∷ [])
+
+-- module: for (let e = 0; e;) { let e = e; e } a
+abbrev pub for_head_by_one_name : Parts
+for_head_by_one_name =
+    module_of
+    (for_loop (declaration 1 (declarator (ident (codes "e")) (number 0 (codes "0")) ∷ [])) (ident (codes "e")) null (block (declaration 1 (declarator (ident (codes "e")) (ident (codes "e")) ∷ []) ∷ statement (ident (codes "e")) ∷ []))
+    ∷ statement (ident (codes "a"))
+    ∷ [])
+
+-- module: for (let e = 0; e;) { let t = e; t } e
+abbrev pub for_head_seen_behind : Parts
+for_head_seen_behind =
+    module_of
+    (for_loop (declaration 1 (declarator (ident (codes "e")) (number 0 (codes "0")) ∷ [])) (ident (codes "e")) null (block (declaration 1 (declarator (ident (codes "t")) (ident (codes "e")) ∷ []) ∷ statement (ident (codes "t")) ∷ []))
+    ∷ statement (ident (codes "e"))
+    ∷ [])
+
+-- module: for (let a in o) a; a
+abbrev pub for_in_head : Parts
+for_in_head =
+    module_of
+    (for_in (declaration 1 (declarator (ident (codes "a")) null ∷ [])) (ident (codes "o")) (statement (ident (codes "a")))
+    ∷ statement (ident (codes "a"))
+    ∷ [])
+
+-- module: for (let e in o) e; a
+abbrev pub for_in_head_mangled : Parts
+for_in_head_mangled =
+    module_of
+    (for_in (declaration 1 (declarator (ident (codes "e")) null ∷ [])) (ident (codes "o")) (statement (ident (codes "e")))
+    ∷ statement (ident (codes "a"))
+    ∷ [])
+
+-- module: for (let e in o) a; a
+abbrev pub for_in_head_unseen : Parts
+for_in_head_unseen =
+    module_of
+    (for_in (declaration 1 (declarator (ident (codes "e")) null ∷ [])) (ident (codes "o")) (statement (ident (codes "a")))
+    ∷ statement (ident (codes "a"))
+    ∷ [])
+
+-- module: for (let a of a) a
+abbrev pub for_of_head : Parts
+for_of_head =
+    module_of
+    (for_of (declaration 1 (declarator (ident (codes "a")) null ∷ [])) (ident (codes "a")) (statement (ident (codes "a")))
+    ∷ [])
+
+-- module: for (let e of e) e
+abbrev pub for_of_head_mangled : Parts
+for_of_head_mangled =
+    module_of
+    (for_of (declaration 1 (declarator (ident (codes "e")) null ∷ [])) (ident (codes "e")) (statement (ident (codes "e")))
+    ∷ [])
+
+-- module: for (let e of a) e
+abbrev pub for_of_head_unseen : Parts
+for_of_head_unseen =
+    module_of
+    (for_of (declaration 1 (declarator (ident (codes "e")) null ∷ [])) (ident (codes "a")) (statement (ident (codes "e")))
     ∷ [])

@@ -1,7 +1,7 @@
 -- Functions, their parameters and own names, and what code can name while it runs. Made by tools/worked_examples.py.
 use Rattle.std.specs.Prelude.{[], ◌∷◌, codes}
 use Rattle.tree_nodes.specs.Tree.{Parts}
-use Rattle.worked_examples.specs.Makers.{arrow, arrow_with_body, assignment, block, call, declaration, declarator, default_at, function, function_expression, gives_back, ident, member, module_of, null, number, object, optional_call, property, script, statement, string, this, with_object}
+use Rattle.worked_examples.specs.Makers.{arrow, arrow_with_body, assignment, block, call, declaration, declarator, default_at, function, function_expression, gives_back, ident, member, meta_property, module_of, null, number, object, optional_call, property, script, statement, string, this, with_object}
 
 -- script: function f(a) { return a }
 abbrev pub declared_function : Parts
@@ -246,6 +246,48 @@ abbrev pub arguments_renamed : Parts
 arguments_renamed =
     script
     (function (ident (codes "f")) (ident (codes "t") ∷ ident (codes "e") ∷ []) (gives_back (ident (codes "t")) ∷ [])
+    ∷ [])
+
+-- module: function f(target) { return new.target }
+abbrev pub new_target : Parts
+new_target =
+    module_of
+    (function (ident (codes "f")) (ident (codes "target") ∷ []) (gives_back (meta_property (ident (codes "new")) (ident (codes "target"))) ∷ [])
+    ∷ [])
+
+-- module: function e(e) { return new.target }
+abbrev pub new_target_mangled : Parts
+new_target_mangled =
+    module_of
+    (function (ident (codes "e")) (ident (codes "e") ∷ []) (gives_back (meta_property (ident (codes "new")) (ident (codes "target"))) ∷ [])
+    ∷ [])
+
+-- module: function e(e) { return new.e }
+abbrev pub new_target_renamed : Parts
+new_target_renamed =
+    module_of
+    (function (ident (codes "e")) (ident (codes "e") ∷ []) (gives_back (meta_property (ident (codes "new")) (ident (codes "e"))) ∷ [])
+    ∷ [])
+
+-- module: function f(a, b = function (c) { return a }) {}
+abbrev pub function_in_default : Parts
+function_in_default =
+    module_of
+    (function (ident (codes "f")) (ident (codes "a") ∷ default_at (ident (codes "b")) (function_expression null (ident (codes "c") ∷ []) (gives_back (ident (codes "a")) ∷ [])) ∷ []) []
+    ∷ [])
+
+-- module: function e(e, t = function (t) { return e }) {}
+abbrev pub function_in_default_mangled : Parts
+function_in_default_mangled =
+    module_of
+    (function (ident (codes "e")) (ident (codes "e") ∷ default_at (ident (codes "t")) (function_expression null (ident (codes "t") ∷ []) (gives_back (ident (codes "e")) ∷ [])) ∷ []) []
+    ∷ [])
+
+-- module: function e(e, t = function (e) { return e }) {}
+abbrev pub function_in_default_captured : Parts
+function_in_default_captured =
+    module_of
+    (function (ident (codes "e")) (ident (codes "e") ∷ default_at (ident (codes "t")) (function_expression null (ident (codes "e") ∷ []) (gives_back (ident (codes "e")) ∷ [])) ∷ []) []
     ∷ [])
 
 -- script: (function (root, factory) { root.lib = factory() })(this, function () { var count = 0; function next(step) { count += step; return count } return { next: next } })

@@ -3,6 +3,7 @@ pub mod Asked
 pub mod Judged
 pub mod Open
 pub mod Blocks
+pub mod Classes
 pub mod Functions
 pub mod Modules
 pub mod PrivateNames

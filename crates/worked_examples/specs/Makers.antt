@@ -2,7 +2,7 @@
 use Rattle.std.specs.Prelude.{ℕ, true, false, List, [], ◌∷◌}
 use Rattle.tree_nodes.specs.Tree.{Parts, Text, atom, child, done, empty, flag, many, text, units, whole, word as word_of}
 use Rattle.tree_nodes.specs.declared.kind.Kind.{Kind}
-use Rattle.tree_nodes.specs.declared.kind.Kind.TheVariants.{ArrayExpression, ArrayPattern, ArrowFunctionExpression, AssignmentExpression, AssignmentPattern, BlockStatement, BreakStatement, CallExpression, CatchClause, ChainExpression, ClassBody, ClassDeclaration, ClassExpression, ExportNamedDeclaration, ExportSpecifier, ExpressionStatement, FunctionDeclaration, FunctionExpression, Identifier, ImportDeclaration, ImportSpecifier, LabeledStatement, Literal, MemberExpression, MethodDefinition, ObjectExpression, ObjectPattern, PrivateIdentifier, Program, Property, PropertyDefinition, RestElement, ReturnStatement, SwitchCase, SwitchStatement, ThisExpression, TryStatement, VariableDeclaration, VariableDeclarator, WithStatement}
+use Rattle.tree_nodes.specs.declared.kind.Kind.TheVariants.{ArrayExpression, ArrayPattern, ArrowFunctionExpression, AssignmentExpression, AssignmentPattern, BlockStatement, BreakStatement, CallExpression, CatchClause, ChainExpression, ClassBody, ClassDeclaration, ClassExpression, ExportAllDeclaration, ExportNamedDeclaration, ExportSpecifier, ExpressionStatement, ForInStatement, ForOfStatement, ForStatement, FunctionDeclaration, FunctionExpression, Identifier, ImportAttribute, ImportDeclaration, ImportSpecifier, LabeledStatement, Literal, MemberExpression, MetaProperty, MethodDefinition, ObjectExpression, ObjectPattern, PrivateIdentifier, Program, Property, PropertyDefinition, RestElement, ReturnStatement, StaticBlock, SwitchCase, SwitchStatement, ThisExpression, TryStatement, VariableDeclaration, VariableDeclarator, WithStatement}
 
 -- a field, or an item of a list: it puts itself before the fields or items that follow
 abbrev pub Piece : Type 0
@@ -98,6 +98,15 @@ class_expression name heritage items = node ClassExpression (name ∷ heritage �
 abbrev pub field : Piece → Piece
 field key = node PropertyDefinition (key ∷ null ∷ off ∷ off ∷ [])
 
+abbrev pub computed_field : Piece → Piece
+computed_field key = node PropertyDefinition (key ∷ null ∷ on ∷ off ∷ [])
+
+abbrev pub computed_method : Piece → List Piece → List Piece → Piece
+computed_method key params statements = node MethodDefinition (key ∷ function_expression null params statements ∷ word 1 ∷ on ∷ off ∷ [])
+
+abbrev pub static_block : List Piece → Piece
+static_block statements = node StaticBlock (list statements ∷ [])
+
 -- a method of this kind, static or not: a method is 1, a getter 2, a setter 3
 abbrev pub method : ℕ → Piece → Piece → List Piece → List Piece → Piece
 method kind static key params statements = node MethodDefinition (key ∷ function_expression null params statements ∷ word kind ∷ off ∷ static ∷ [])
@@ -121,6 +130,9 @@ optional_call callee arguments = node ChainExpression (node CallExpression (call
 
 abbrev pub member : Piece → Piece → Piece
 member of property = node MemberExpression (of ∷ property ∷ off ∷ off ∷ [])
+
+abbrev pub meta_property : (meta property : Piece) → Piece
+meta_property meta property = node MetaProperty (meta ∷ property ∷ [])
 
 -- by the number of its operator: `=` is 0, `+=` 1, `||=` 13
 abbrev pub assignment : ℕ → (left right : Piece) → Piece
@@ -156,6 +168,16 @@ leave label = node BreakStatement (label ∷ [])
 abbrev pub try_catch : List Piece → Piece → List Piece → Piece
 try_catch tried pattern statements = node TryStatement (block tried ∷ node CatchClause (pattern ∷ body statements ∷ []) ∷ null ∷ [])
 
+-- with its head: a declaration, a test and an update; a declaration, and what is gone through
+abbrev pub for_loop : (init test update statement : Piece) → Piece
+for_loop init test update statement = node ForStatement (init ∷ test ∷ update ∷ statement ∷ [])
+
+abbrev pub for_in : (left right statement : Piece) → Piece
+for_in left right statement = node ForInStatement (left ∷ right ∷ statement ∷ [])
+
+abbrev pub for_of : (left right statement : Piece) → Piece
+for_of left right statement = node ForOfStatement (off ∷ left ∷ right ∷ statement ∷ [])
+
 abbrev pub with_object : (of statement : Piece) → Piece
 with_object of statement = node WithStatement (of ∷ statement ∷ [])
 
@@ -167,8 +189,11 @@ case test statements = node SwitchCase (test ∷ list statements ∷ [])
 
 -- ---- modules
 
-abbrev pub import_from : List Piece → Piece → Piece
-import_from specifiers source = node ImportDeclaration (list specifiers ∷ source ∷ list [] ∷ [])
+abbrev pub import_from : List Piece → Piece → List Piece → Piece
+import_from specifiers source attributes = node ImportDeclaration (list specifiers ∷ source ∷ list attributes ∷ [])
+
+abbrev pub attribute : (key value : Piece) → Piece
+attribute key value = node ImportAttribute (key ∷ value ∷ [])
 
 abbrev pub imported : (name local : Piece) → Piece
 imported name local = node ImportSpecifier (name ∷ local ∷ [])
@@ -178,6 +203,12 @@ export declared = node ExportNamedDeclaration (declared ∷ list [] ∷ null ∷
 
 abbrev pub export_names : List Piece → Piece
 export_names specifiers = node ExportNamedDeclaration (null ∷ list specifiers ∷ null ∷ list [] ∷ [])
+
+abbrev pub export_from : List Piece → Piece → Piece
+export_from specifiers source = node ExportNamedDeclaration (null ∷ list specifiers ∷ source ∷ list [] ∷ [])
+
+abbrev pub export_all : (name source : Piece) → Piece
+export_all name source = node ExportAllDeclaration (name ∷ source ∷ list [] ∷ [])
 
 abbrev pub exported : (local name : Piece) → Piece
 exported local name = node ExportSpecifier (local ∷ name ∷ [])

@@ -1,7 +1,7 @@
 -- Private members of classes. Made by tools/worked_examples.py.
 use Rattle.std.specs.Prelude.{[], ◌∷◌, codes}
 use Rattle.tree_nodes.specs.Tree.{Parts}
-use Rattle.worked_examples.specs.Makers.{call, class, class_expression, field, gives_back, ident, member, method, module_of, null, off, on, private, statement, string}
+use Rattle.worked_examples.specs.Makers.{call, class, class_expression, computed_field, field, gives_back, ident, member, method, module_of, null, off, on, private, statement, string}
 
 -- module: class A { #x; get #y() {} set #y(v) {} m() { class B { #z; n(o) { return o.#x } } } }
 abbrev pub private_members : Parts
@@ -57,6 +57,34 @@ abbrev pub heritage_mangled : Parts
 heritage_mangled =
     module_of
     (class (ident (codes "e")) null (field (private (codes "e")) ∷ method 1 off (ident (codes "m")) (ident (codes "e") ∷ []) (gives_back (class_expression null (member (ident (codes "e")) (private (codes "e"))) (field (private (codes "t")) ∷ [])) ∷ []) ∷ [])
+    ∷ [])
+
+-- module: class A { #x; m(o) { return class { [o.#x]; #y; } } }
+abbrev pub computed_key : Parts
+computed_key =
+    module_of
+    (class (ident (codes "A")) null (field (private (codes "x")) ∷ method 1 off (ident (codes "m")) (ident (codes "o") ∷ []) (gives_back (class_expression null null (computed_field (member (ident (codes "o")) (private (codes "x"))) ∷ field (private (codes "y")) ∷ [])) ∷ []) ∷ [])
+    ∷ [])
+
+-- module: class e { #e; m(e) { return class { [e.#e]; #t; } } }
+abbrev pub computed_key_mangled : Parts
+computed_key_mangled =
+    module_of
+    (class (ident (codes "e")) null (field (private (codes "e")) ∷ method 1 off (ident (codes "m")) (ident (codes "e") ∷ []) (gives_back (class_expression null null (computed_field (member (ident (codes "e")) (private (codes "e"))) ∷ field (private (codes "t")) ∷ [])) ∷ []) ∷ [])
+    ∷ [])
+
+-- module: class e { #e; m(e) { return class { [e.#e]; #e; } } }
+abbrev pub computed_key_captured : Parts
+computed_key_captured =
+    module_of
+    (class (ident (codes "e")) null (field (private (codes "e")) ∷ method 1 off (ident (codes "m")) (ident (codes "e") ∷ []) (gives_back (class_expression null null (computed_field (member (ident (codes "e")) (private (codes "e"))) ∷ field (private (codes "e")) ∷ [])) ∷ []) ∷ [])
+    ∷ [])
+
+-- module: class e { #e; m(e) { return class { [e.#t]; #t; } } }
+abbrev pub computed_key_of_its_class : Parts
+computed_key_of_its_class =
+    module_of
+    (class (ident (codes "e")) null (field (private (codes "e")) ∷ method 1 off (ident (codes "m")) (ident (codes "e") ∷ []) (gives_back (class_expression null null (computed_field (member (ident (codes "e")) (private (codes "t"))) ∷ field (private (codes "t")) ∷ [])) ∷ []) ∷ [])
     ∷ [])
 
 -- module: class A { #x; m() { eval("this.#x") } }

@@ -88,14 +88,46 @@ pub fn labels_stay()
     ensures renamed { IsRefusedBy (Plain ∷ []) defaults row.labels row.labels_renamed }
 {}
 
-/// The value that a `switch` asks for lies outside its scope, a function in it too.
+/// The value that a `switch` asks for lies outside its scope, a function in it too: the parameter and
+/// what a case declares share a name.
 pub fn discriminant_lies_outside()
-    ensures { IsAnswer defaults row.discriminant row.discriminant_mangled }
+    ensures answer { IsAnswer defaults row.discriminant row.discriminant_mangled }
+    ensures two_names { IsRefusedBy (Fewest ∷ []) defaults row.discriminant row.discriminant_by_two_names }
+{}
+
+/// A function that a case of a module's `switch` declares isn't seen behind the `switch`.
+pub fn function_in_case_declares()
+    ensures answer { IsAnswer defaults row.function_in_case row.function_in_case_mangled }
+    ensures behind { IsRefusedBy (Stay ∷ []) defaults row.function_in_case row.function_in_case_seen_behind }
 {}
 
 /// A catch parameter and the declarations of its block are in one scope.
 pub fn catch_parameter_declares()
     ensures { IsAnswer defaults row.catch_parameter row.catch_parameter_mangled }
+{}
+
+/// A `catch` may have no parameter: what its block declares is seen there alone, and a global that is
+/// used before it keeps its name to itself.
+pub fn catch_needs_no_parameter()
+    ensures answer { IsAnswer defaults row.catch_without_parameter row.catch_without_parameter_mangled }
+    ensures by_global { IsRefusedBy (Free ∷ []) defaults row.catch_without_parameter row.catch_without_parameter_by_global }
+{}
+
+/// What the head of a `for` declares by `let` is seen in the head and in the body, not behind the
+/// loop: there the name is a global.
+pub fn for_head_declares()
+    ensures answer { IsAnswer defaults row.for_head row.for_head_mangled }
+    ensures one_name { IsRefusedBy (Bound ∷ Fewest ∷ []) defaults row.for_head row.for_head_by_one_name }
+    ensures behind { IsRefusedBy (Stay ∷ []) defaults row.for_head row.for_head_seen_behind }
+{}
+
+/// The same of `for`-`in` and `for`-`of`. The value that is gone through lies in the loop's scope: a
+/// `let` of its head is seen there, though it has no value yet.
+pub fn for_in_head_declares()
+    ensures answer { IsAnswer defaults row.for_in_head row.for_in_head_mangled }
+    ensures unseen { IsRefusedBy (Bound ∷ One ∷ Free ∷ Fewest ∷ []) defaults row.for_in_head row.for_in_head_unseen }
+    ensures of_answer { IsAnswer defaults row.for_of_head row.for_of_head_mangled }
+    ensures of_unseen { IsRefusedBy (Bound ∷ One ∷ Fewest ∷ []) defaults row.for_of_head row.for_of_head_unseen }
 {}
 
 /// `using` and `await using` declare as `const` does.

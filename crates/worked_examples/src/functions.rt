@@ -3,7 +3,7 @@
 ghost use Rattle.std.specs.Prelude.{[], ◌∷◌};
 ghost use Rattle.worked_examples.specs.Asked.{defaults, keeping_functions, with_top_level};
 ghost use Rattle.worked_examples.specs.Functions as row;
-ghost use Rattle.worked_examples.specs.Judged.{Bound, Fewest, Free, IsAnswer, IsRefusedBy, Stay};
+ghost use Rattle.worked_examples.specs.Judged.{Bound, Fewest, Free, IsAnswer, IsRefusedBy, Plain, Stay};
 
 /// Bindings of a script's root keep their names, unless it is asked that they don't.
 pub fn script_keeps_top_level()
@@ -62,6 +62,18 @@ pub fn with_statement_keeps()
 pub fn arguments_stays()
     ensures answer { IsAnswer defaults row.arguments_declared row.arguments_declared_mangled }
     ensures renamed { IsRefusedBy (Stay ∷ []) defaults row.arguments_declared row.arguments_renamed }
+{}
+
+/// The words of `new.target` are no variables: they stay.
+pub fn new_target_stays()
+    ensures answer { IsAnswer defaults row.new_target row.new_target_mangled }
+    ensures renamed { IsRefusedBy (Plain ∷ []) defaults row.new_target row.new_target_renamed }
+{}
+
+/// A function in a parameter's default sees the other parameters.
+pub fn function_in_default_sees_parameters()
+    ensures answer { IsAnswer defaults row.function_in_default row.function_in_default_mangled }
+    ensures captured { IsRefusedBy (Bound ∷ []) defaults row.function_in_default row.function_in_default_captured }
 {}
 
 /// A library in its wrapper: names that aren't in use together are given twice. Refused is the tree

@@ -5,6 +5,7 @@
 #![tactic(auto, unfolding(crate::specs::Open::all_open))]
 
 pub mod blocks;
+pub mod classes;
 pub mod faults;
 pub mod functions;
 pub mod judging;

@@ -20,6 +20,14 @@ pub fn heritage_lies_outside()
     ensures { IsAnswer defaults row.heritage row.heritage_mangled }
 {}
 
+/// A computed key declares no private name, and may use those of the classes around: refused are trees
+/// in which the class takes that name for a member of its own, and in which the key uses one.
+pub fn computed_keys_use_private_names()
+    ensures answer { IsAnswer defaults row.computed_key row.computed_key_mangled }
+    ensures captured { IsRefusedBy (Private ∷ []) defaults row.computed_key row.computed_key_captured }
+    ensures own_class { IsRefusedBy (Private ∷ []) defaults row.computed_key row.computed_key_of_its_class }
+{}
+
 /// The private names of a class whose body holds a direct eval stay, and classes inside it don't get
 /// them.
 pub fn open_classes_keep_private_names()
