@@ -4,3 +4,4 @@ pub mod ToldBytes
 pub mod WrappedWithin
 -- a program under its new names
 pub mod Mangles
+pub mod ShortTexts

@@ -52,7 +52,7 @@ text_in_string (object ms) x e = none_some x e
 text_is_utf8 : (d : Json) (x : Text) → text_in d ≡ Some x → IsUtf8 x
 text_is_utf8 d x e = let s = text_in_string d x e in IsUtf8-text_of_units s.0 x s.2
 
-listed_units : (ds : Items) (us : List ℕ) → units_in_list ds ≡ Some us → AreCodeUnits us
+pub listed_units : (ds : Items) (us : List ℕ) → units_in_list ds ≡ Some us → AreCodeUnits us
 listed_units no_items us e = subst AreCodeUnits (some_same [] us e) tt
 listed_units (item d ds) us e =
     let a = then_some (λ u. option_map (λ vs. u ∷ vs) (units_in_list ds)) (below (2 ^ 16) d) us e in

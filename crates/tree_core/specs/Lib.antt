@@ -9,3 +9,4 @@ pub mod Laws
 pub mod NodeCount
 pub mod Program
 pub mod Widest
+pub mod LongestText

@@ -31,7 +31,8 @@ impl SourceType {
     }
 }
 
-/// A tree that is a program, of fewer than 2^30 nodes, with each node where it may stand.
+/// A tree that is a program, of fewer than 2^30 nodes, with each node where it may stand and each text
+/// of at most 4,294,967,295 bytes.
 #[derive(Drop)]
 pub struct Program {
     root: Node,
@@ -54,6 +55,7 @@ impl Model for Program {
 
 impl Program {
     ghost use Rattle.std.specs.Prelude.{◌<◌, ◌^◌};
+    ghost use Rattle.tree_core.specs.LongestText.{longest_text};
     ghost use Rattle.tree_core.specs.NodeCount.{node_count};
     ghost use Rattle.tree_core.specs.Program.{IsProgram, source_type_of};
 
@@ -65,11 +67,13 @@ impl Program {
         Program { root }
     }
 
-    /// The node of kind `Program`, in which all others lie, fewer than 2^30 with it.
+    /// The node of kind `Program`, in which all others lie, fewer than 2^30 with it. The texts in it
+    /// have at most 4,294,967,295 bytes, and so do the bytes of WTF-8 of its code units.
     pub fn root(&self) -> &Node
         ensures root { result.now ≡ self.now }
         ensures program { IsProgram self.now }
         ensures few { node_count self.now < 2 ^ 30 }
+        ensures texts { longest_text self.now.fields < 2 ^ 32 }
     {
         &self.root
     }

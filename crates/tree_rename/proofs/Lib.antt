@@ -17,4 +17,5 @@ pub mod RenamedFields
 pub mod FitsAlike
 pub mod StandsAlike
 -- programs
+pub mod RenamedTexts
 pub mod RenamedPrograms

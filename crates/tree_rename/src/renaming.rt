@@ -1,7 +1,7 @@
 //! A tree, and a program, under new names.
 
 ghost use Rattle.std.specs.List.{AllByRecursion};
-ghost use Rattle.std.specs.Prelude.{◌≡◌, IfOk, IsTrue, map, string_bytes};
+ghost use Rattle.std.specs.Prelude.{◌≡◌, ◌<◌, ◌^◌, IfOk, IsTrue, length, map, string_bytes};
 ghost use Rattle.syntax_lex.specs.Identifier.{is_identifier_name};
 ghost use Rattle.tree_core.specs.Program.{IsProgram};
 ghost use Rattle.tree_nodes.specs.Tree.{alone};
@@ -18,7 +18,8 @@ use tree_nodes::Node;
 /// The program under new names, in place. The n-th place in printing order, an Identifier or a
 /// PrivateIdentifier, gets `names[i]` where `choices[n]` is `Some(i)`, and keeps its name where there
 /// is no such choice or no such name. A shorthand mark ends where the names of key and value no
-/// longer agree. The error is want of memory for a name.
+/// longer agree. The names are identifier names of at most 4,294,967,295 bytes, as in each program.
+/// The error is want of memory for a name.
 pub fn rename(
     alloc: Global,
     program: Program,
@@ -27,6 +28,7 @@ pub fn rename(
 ) -> Result<Program, AllocError>
     requires spare { IsTrue (spare_plain (sites (alone program)) choices.now) }
     requires identifiers { AllByRecursion (λ s. IsTrue (is_identifier_name (string_bytes s))) names.now }
+    requires short { AllByRecursion (λ s. length (string_bytes s) < 2 ^ 32) names.now }
     ensures renamed { IfOk result (λ p. IsRenamed (alone program) (alone p)) }
     ensures names { IfOk result (λ p. names_of (alone p)
         ≡ chosen (map string_bytes names.now) choices.now (names_of (alone program))) }

@@ -7,6 +7,7 @@ use Rattle.tree_core.proofs.ListWidths.{lists_are_narrow}
 use Rattle.tree_core.proofs.NodeCounts.{few_nodes}
 use Rattle.tree_core.proofs.ReadsBack.{reading_undoes_printing}
 use Rattle.tree_core.proofs.ReadTrees.{says_bad, tree_of-placed, tree_of-misplaced, tree_of-shapeless}
+use Rattle.tree_core.proofs.TextLengths.{texts_are_short}
 use Rattle.tree_core.proofs.read.read_tree.Goals as goal
 
 pub returns-in_err-root-clause-bad_tree : goal.returns-in_err-root-clause-bad_tree
@@ -23,7 +24,8 @@ from_root-requires c =
     let read = tree_of-placed (json_of (view c.args.value.now)) c.in_ok-root.root c.in_ok-root.ensures.ok (sym c.is_placed.ensures ∙ c.if-not-is_placed.false) in
     let few = few_nodes (view c.args.value.now) c.in_ok-root.root c.args.more (sym c.is_too_large.ensures ∙ c.if-is_too_large.false) read in
     let narrow = lists_are_narrow (view c.args.value.now) c.in_ok-root.root c.args.more (sym c.is_too_large.ensures ∙ c.if-is_too_large.false) read in
-    (reading_undoes_printing (json_of (view c.args.value.now)) c.in_ok-root.root read, omega arith, narrow)
+    let short = texts_are_short c.args.value.now c.in_ok-root.root c.args.more (sym c.is_too_large.ensures ∙ c.if-is_too_large.false) read in
+    (reading_undoes_printing (json_of (view c.args.value.now)) c.in_ok-root.root read, omega arith, narrow, short)
 
 pub returns-clause-ok : goal.returns-clause-ok
 returns-clause-ok c =
