@@ -1,5 +1,5 @@
 -- A tree that is read has no longer texts than the strings and lists of its value.
-use Rattle.std.proofs.Common.{◌≡◌, ℕ, suc, ◌+◌, ◌*◌, ◌≤◌, ◌<◌, ◌^◌, max, List, [], ◌∷◌, length, Bool, true, false, ◌&&◌, ◌||◌, Option, Some, None, IsUtf8, option_map, option_and_then, if◌then◌else◌, refl, sym, ap, ◌∙◌, subst, arith, bytes_eq, codes}
+use Rattle.std.proofs.Common.{◌≡◌, ℕ, suc, ◌*◌, ◌≤◌, ◌<◌, ◌^◌, max, List, [], ◌∷◌, length, Bool, true, false, ◌&&◌, ◌||◌, Option, Some, None, IsUtf8, option_map, option_and_then, if◌then◌else◌, refl, sym, ap, ◌∙◌, subst, arith, bytes_eq, codes}
 use Rattle.std.proofs.lemmas.Bool.Decides.{nat_tests}
 use Rattle.json_text.specs.Json.{Json, null, truth, whole as number, other_number, string, list, object, Items, no_items, item, Members, no_members, member}
 use Rattle.json_text.specs.Units.{are_code_units, units_of}
@@ -266,8 +266,8 @@ string_data s utf8 e =
     let short : length s < 2 ^ 32 = grind (arith, nat_tests, e) in (
       λ x f. subst (λ (y : List ℕ). length y < 2 ^ 32) (some_same s x (sym (text_of_units-units_of s utf8) ∙ f)) short,
       λ us f.
-      let own = (if_some (are_code_units (units_of s)) (Some (units_of s)) us f).1 in
-      subst (λ (y : List ℕ). length (wtf8 y) < 2 ^ 32) (some_same (units_of s) us own) (subst (λ (y : List ℕ). length y < 2 ^ 32) (sym (IsWtf8-IsUtf8 s utf8).canonical) short),
+          let own = (if_some (are_code_units (units_of s)) (Some (units_of s)) us f).1 in
+          subst (λ (y : List ℕ). length (wtf8 y) < 2 ^ 32) (some_same (units_of s) us own) (subst (λ (y : List ℕ). length y < 2 ^ 32) (sym (IsWtf8-IsUtf8 s utf8).canonical) short),
     )
 
 unit_count : (ds : parsed.Items) (us : List ℕ) → units_in_list (items_of ds) ≡ Some us → length us ≡ items_len ds
@@ -282,9 +282,9 @@ list_data ds e =
     let short : items_len ds < 2 ^ 30 = grind (arith, nat_tests, e) in (
       λ x f. none_some x f,
       λ us f.
-      let long : length us ≡ items_len ds = unit_count ds us f in
-      let bytes : length (wtf8 us) ≤ 3 * length us = units_bytes us (listed_units (items_of ds) us f) in
-      omega (arith, short, long, bytes),
+          let long : length us ≡ items_len ds = unit_count ds us f in
+          let bytes : length (wtf8 us) ≤ 3 * length us = units_bytes us (listed_units (items_of ds) us f) in
+          omega (arith, short, long, bytes),
     )
 
 number_data : (m : parsed.Num) → AreShort (2 ^ 32) (number_of m)
