@@ -1,7 +1,7 @@
 -- The names that are given have few characters.
 use Rattle.std.specs.Prelude.{◌≡◌, ◌<◌, ◌≤◌, ℕ, zero, suc, ◌+◌, ◌/◌, ◌^◌, true, List, [], ◌∷◌, length, map, string_bytes}
 use Rattle.std.specs.List.{AllByRecursion, Contains}
-use Rattle.std.proofs.Common.{refl, ap, ◌∙◌, subst, sym, arith, inl, inr, Global, String}
+use Rattle.std.proofs.Common.{refl, ap, subst, sym, arith, inl, inr, Global, String}
 use Rattle.list_laws.proofs.Members.{In, contains_from_in}
 use Rattle.name_rules.proofs.Bounds.{bound_is_small, names_are_bounded}
 use Rattle.name_rules.specs.Bounds.{candidate_limit}
