@@ -24,8 +24,8 @@ use Rattle.new_names.proofs.SlotsAreFew.{slots_are_few}
 use Rattle.new_names.specs.NewNames.{AreNewNames, IsListOf}
 use Rattle.new_names.specs.Taken.{staying_names}
 use Rattle.new_names.specs.declared.naming.NewNames.{NewNames}
-use Rattle.oxc_mangler.specs.FirstFree.{AreFreeWhereTaken}
-use Rattle.oxc_mangler.specs.Guard.{is_refused}
+use Rattle.free_names.specs.FirstFree.{AreFreeWhereTaken}
+use Rattle.free_names.specs.Guard.{is_refused}
 use Rattle.place_list.specs.TableViews.{places_in, scope_at, withs_in}
 use Rattle.place_list.specs.declared.tables.PlaceList.{PlaceList}
 use Rattle.scope_rules.specs.PrivateNames.{is_among}

@@ -14,7 +14,7 @@ use Rattle.name_rules.specs.Groups.{Member}
 use Rattle.name_rules.specs.Kept.{is_reserved, name_arguments}
 use Rattle.name_rules.specs.Options.{Options}
 use Rattle.new_names.specs.Taken.{HasAll, keeps_name, staying_names}
-use Rattle.oxc_mangler.specs.Guard.{HasAlso, is_never_given, is_refused}
+use Rattle.free_names.specs.Guard.{HasAlso, is_never_given, is_refused}
 use Rattle.scope_rules.specs.Bindings.{same_name}
 use Rattle.scope_rules.specs.Evals.{name_eval}
 use Rattle.scope_rules.specs.PrivateNames.{is_among}

@@ -14,7 +14,7 @@ use crate::taken::taken_names;
 use kept_names::groups_of_places;
 use live_slots::slots_of_groups;
 use mangle_options::MangleOptions;
-use oxc_mangler::{free_names, slot_names};
+use free_names::{free_names, slot_names};
 use private_numbers::PrivateNumbers;
 use scope_tables::ScopeTables;
 use std::alloc::{AllocError, Allocator, Global};

@@ -9,7 +9,7 @@ ghost use Rattle.place_list.specs.TableViews.{places_in};
 ghost use Rattle.private_numbers.specs.AllNumbers.{IsNumbered, table_in};
 ghost use Rattle.new_names.specs.Limits as spec;
 
-use oxc_mangler::base54;
+use free_names::base54;
 use private_numbers::PrivateNumbers;
 use std::alloc::{AllocError, Global};
 

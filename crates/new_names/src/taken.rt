@@ -12,7 +12,7 @@ ghost use Rattle.scope_rules.specs.PrivateNames.{is_among};
 ghost use Rattle.tree_nodes.specs.Tree.{Text};
 
 use mangle_options::MangleOptions;
-use oxc_mangler::Guard;
+use free_names::Guard;
 use place_list::{PlaceEntry, PlaceList};
 use std::alloc::{AllocError, Global};
 use tree_nodes::Role;

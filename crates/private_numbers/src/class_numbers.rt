@@ -9,7 +9,7 @@ ghost use Rattle.private_numbers.specs.Numbers.{AreAt, AreClassNumbers, AreConse
 
 use crate::avoided::{class_around, is_avoided, lies_in_open};
 use class_tables::PrivateTable;
-use oxc_mangler::base54;
+use free_names::base54;
 use std::alloc::{AllocError, Global};
 
 // The numbers of the private names of one class body, none where it is open.

@@ -1,5 +1,0 @@
-//! Tests of `oxc_mangler`: each public call with ample memory, by values from outside.
-#![tactic(auto)]
-
-#[cfg(test)]
-mod tests;
