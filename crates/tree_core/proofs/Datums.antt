@@ -1,6 +1,6 @@
 -- What is read of a field that holds no node is one atom, or nothing: it measures 0 in any measure of nodes and lists.
-use Rattle.std.proofs.Common.{◌≡◌, ℕ, ◌^◌, List, [], Bool, true, false, ◌&&◌, Option, Some, None, option_map, option_and_then, if◌then◌else◌, sym, ap, ◌∙◌, codes}
-use Rattle.json_text.specs.Json.{Json, null, truth, whole as number, other_number, string, list, object, Members, no_members, member}
+use Rattle.std.proofs.Common.{◌≡◌, ℕ, ◌^◌, List, [], Bool, true, false, ◌&&◌, Option, Some, None, option_map, option_and_then, if◌then◌else◌, sym, ap, ◌∙◌}
+use Rattle.json_text.specs.Json.{Json, null, truth, whole as number, other_number, string, list, object, no_members, member}
 use Rattle.syntax_lex.specs.Identifier.{is_identifier_name}
 use Rattle.tree_nodes.specs.Tree.{Atom, Parts, done, empty, flag, many, text, units, whole, word}
 use Rattle.tree_nodes.specs.declared.table.Class.{Class as FieldClass}

@@ -1,5 +1,5 @@
 -- A tree that is read has no wider lists than its value has arrays.
-use Rattle.std.proofs.Common.{◌≡◌, ℕ, suc, ◌+◌, ◌≤◌, ◌<◌, ◌^◌, max, List, [], ◌∷◌, Bool, true, false, ◌&&◌, ◌||◌, Option, Some, None, option_map, option_and_then, if◌then◌else◌, refl, sym, ap, ◌∙◌, subst, arith, bytes_eq, codes}
+use Rattle.std.proofs.Common.{◌≡◌, ℕ, suc, ◌+◌, ◌<◌, ◌^◌, max, List, [], ◌∷◌, Bool, true, false, ◌&&◌, ◌||◌, Option, Some, option_map, if◌then◌else◌, refl, sym, ap, ◌∙◌, subst, arith, bytes_eq, codes}
 use Rattle.std.proofs.lemmas.Bool.Decides.{nat_tests}
 use Rattle.json_text.specs.Json.{Json, null, truth, whole as number, other_number, string, list, object, Items, no_items, item, Members, no_members, member}
 use Rattle.serde_json.specs.Data as parsed
@@ -10,7 +10,7 @@ use Rattle.tree_nodes.specs.Tree.{Parts, Tree, alone, atom, child, done, empty, 
 use Rattle.tree_nodes.specs.declared.table.Class.{Class as FieldClass}
 use Rattle.tree_nodes.specs.declared.table.Class.TheVariants.{Cooked, Flag, Flags, Holes, LiteralValue, Many, ManyOr, Maybe, Name, One, Pattern, Raw, Text as TextClass, TextOr, Word}
 use Rattle.tree_core.specs.JsonOf.{json_of, items_of, members_of, number_of}
-use Rattle.tree_core.specs.Limits.{has_long_item, has_long_member, has_long_part, is_long_array, is_long_text, is_too_large, objects_in}
+use Rattle.tree_core.specs.Limits.{has_long_item, has_long_member, has_long_part, is_long_array, is_long_text, is_too_large}
 use Rattle.tree_core.specs.Reading.{are_distinct, find_member, is_null_value, is_paired, items_from, list_of, offset_of, one, only_known, or_hole, outer_key, part_from, part_in, row_for, run_of, shape_from, shape_of, tree_of}
 use Rattle.tree_core.specs.Widest.{widest_list}
 use Rattle.tree_nodes.proofs.Cases.{if_some, map_some, neither, none_some, some_same, then_some}

@@ -1,21 +1,20 @@
 -- A tree that is read has at most as many nodes as its value has objects.
-use Rattle.std.proofs.Common.{◌≡◌, ℕ, suc, ◌+◌, ◌≤◌, ◌<◌, ◌^◌, List, [], ◌∷◌, Bool, true, false, not, ◌&&◌, ◌||◌, Option, Some, None, option_map, option_and_then, if◌then◌else◌, refl, sym, ap, ◌∙◌, subst, arith, bytes_eq, codes}
+use Rattle.std.proofs.Common.{◌≡◌, ℕ, suc, ◌+◌, ◌≤◌, ◌<◌, ◌^◌, List, [], ◌∷◌, Bool, true, false, not, ◌&&◌, ◌||◌, Option, Some, None, option_map, if◌then◌else◌, refl, sym, ap, ◌∙◌, subst, arith, bytes_eq, codes}
 use Rattle.std.specs.List.{list_all}
 use Rattle.std.proofs.lemmas.Bool.Decides.{nat_tests}
 use Rattle.json_text.specs.Json.{Json, null, truth, whole as number, other_number, string, list, object, Items, no_items, item, Members, no_members, member}
 use Rattle.serde_json.specs.Data as parsed
-use Rattle.syntax_lex.specs.Identifier.{is_identifier_name}
 use Rattle.tree_nodes.specs.Kinds.{all_kinds}
 use Rattle.tree_nodes.specs.Look.{onto}
 use Rattle.tree_nodes.specs.Table.{Column, Row, row}
-use Rattle.tree_nodes.specs.Tree.{Atom, Parts, Tree, alone, atom, child, done, empty, flag, many, text, units, whole, word}
+use Rattle.tree_nodes.specs.Tree.{Parts, Tree, alone, atom, child, done, empty, many}
 use Rattle.tree_nodes.specs.declared.kind.Kind.{Kind}
 use Rattle.tree_nodes.specs.declared.table.Class.{Class as FieldClass}
 use Rattle.tree_nodes.specs.declared.table.Class.TheVariants.{Cooked, Flag, Flags, Holes, LiteralValue, Many, ManyOr, Maybe, Name, One, Pattern, Raw, Text as TextClass, TextOr, Word}
 use Rattle.tree_core.specs.JsonOf.{json_of, items_of, members_of, number_of}
 use Rattle.tree_core.specs.Limits.{is_too_large, has_long_part, objects_in, objects_in_items, objects_in_members}
 use Rattle.tree_core.specs.NodeCount.{nodes_in, node_count}
-use Rattle.tree_core.specs.Reading.{absent, are_distinct, below, find_member, is_listed, is_null_value, is_paired, items_from, list_of, offset_of, one, only_known, or_hole, outer_key, part_from, part_in, regex_part, row_for, run_of, shape_from, shape_of, template_part, text_in, tree_of, units_in, value_part}
+use Rattle.tree_core.specs.Reading.{absent, are_distinct, find_member, is_listed, is_null_value, is_paired, items_from, list_of, offset_of, one, only_known, or_hole, outer_key, part_from, part_in, row_for, run_of, shape_from, shape_of, tree_of}
 use Rattle.tree_nodes.proofs.Cases.{both, bytes_equal, bytes_same, if_some, map_some, neither, none_some, not_true, some_same, then_some}
 use Rattle.tree_core.proofs.Datums as datums
 use Rattle.tree_core.proofs.Datums.{is_datum}

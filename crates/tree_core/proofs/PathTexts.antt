@@ -1,23 +1,20 @@
 -- The text of a program's value with its fix paths reads as the object of the two.
-use Rattle.std.proofs.Common.{◌≡◌, ℕ, suc, ◌+◌, ◌≤◌, ◌<◌, ◌^◌, max, List, [], ◌∷◌, ◌++◌, map, Bool, true, false, if◌then◌else◌, refl, sym, ap, ap₂, ◌∙◌, subst, arith, codes}
+use Rattle.std.proofs.Common.{◌≡◌, ℕ, suc, ◌+◌, ◌≤◌, ◌<◌, ◌^◌, List, [], ◌∷◌, ◌++◌, map, Bool, true, false, if◌then◌else◌, refl, sym, ap, ap₂, subst, arith, codes}
 use Rattle.std.specs.List.{AllByRecursion}
 use Rattle.std.proofs.lemmas.Str.{IsUtf8-from_ascii}
 use Rattle.json_text.specs.Json.{Json, list, object, member, no_members, Items, item}
-use Rattle.json_text.specs.Layout.{Layout}
 use Rattle.json_text.specs.Grammar.{Reads}
 use Rattle.json_text.specs.HasText.{HasText, ItemsHaveText}
 use Rattle.json_text.proofs.Once.{reads_once}
 use Rattle.json_text.proofs.Texts.{text_reads_alone}
 use Rattle.json_text.proofs.Units.{AreCodeUnits-units_of}
 use Rattle.oxc_estree.specs.Envelope.{envelope, envelope_value, fix_paths as paths_within}
-use Rattle.oxc_estree.specs.Out.{Part, front, index, key, parts_items, path_value}
+use Rattle.oxc_estree.specs.Out.{Part, index, key, parts_items, path_value}
 use Rattle.oxc_estree.proofs.EnvelopeReads.{reads_alone}
 use Rattle.oxc_estree.proofs.Paths.{front-append}
 use Rattle.tree_nodes.specs.Look.{parts_len}
-use Rattle.tree_nodes.specs.NodeCount.{nodes_in}
 use Rattle.tree_nodes.specs.Table.{Column, row}
-use Rattle.tree_nodes.specs.Tree.{Parts, Tree, alone, atom, child, done, many}
-use Rattle.tree_nodes.specs.declared.kind.Kind.{Kind}
+use Rattle.tree_nodes.specs.Tree.{Parts, Tree, atom, child, done, many}
 use Rattle.tree_nodes.proofs.Cases.{both}
 use Rattle.tree_core.specs.Laws.{ProgramsAreSmall, WrappedProgramsRead}
 use Rattle.tree_core.specs.Program.{IsProgram}

@@ -1,5 +1,5 @@
 -- A tree that is read has no longer texts than the strings and lists of its value.
-use Rattle.std.proofs.Common.{◌≡◌, ℕ, suc, ◌+◌, ◌*◌, ◌≤◌, ◌<◌, ◌^◌, max, List, [], ◌∷◌, length, Bool, true, false, ◌&&◌, ◌||◌, Option, Some, None, IsUtf8, option_map, option_and_then, if◌then◌else◌, refl, sym, ap, ◌∙◌, subst, arith, bytes_eq, codes}
+use Rattle.std.proofs.Common.{◌≡◌, ℕ, suc, ◌*◌, ◌≤◌, ◌<◌, ◌^◌, max, List, [], ◌∷◌, length, Bool, true, false, ◌&&◌, ◌||◌, Option, Some, None, IsUtf8, option_map, option_and_then, if◌then◌else◌, refl, sym, ap, ◌∙◌, subst, arith, bytes_eq, codes}
 use Rattle.std.proofs.lemmas.Bool.Decides.{nat_tests}
 use Rattle.json_text.specs.Json.{Json, null, truth, whole as number, other_number, string, list, object, Items, no_items, item, Members, no_members, member}
 use Rattle.json_text.specs.Units.{are_code_units, units_of}

@@ -1,5 +1,5 @@
 -- Each string of a value is a text in UTF-8.
-use Rattle.std.proofs.Common.{◌≡◌, List, [], ◌∷◌, map, String, Global, IsUtf8, sym, subst}
+use Rattle.std.proofs.Common.{List, [], ◌∷◌, map, String, Global, IsUtf8, sym, subst}
 use Rattle.std.proofs.lemmas.Str.{IsUtf8-string_bytes}
 use Rattle.serde_json.specs.Data as parsed
 use Rattle.serde_json.specs.View.{items_of, members_of, view, view_step}
