@@ -1,10 +1,8 @@
 -- Whether a place declares a name again, beside those so far.
-use Rattle.std.specs.Prelude.{◌≡◌, ◌⊎◌, ℕ, Bool, true, false, not, ◌&&◌, ◌||◌, List, [], ◌∷◌, ◌++◌, ◌+◌, ◌<◌, length, map, take, drop, get_or, bytes_eq}
+use Rattle.std.specs.Prelude.{◌≡◌, ℕ, Bool, true, false, not, ◌&&◌, ◌||◌, List, [], ◌∷◌, bytes_eq}
 use Rattle.std.specs.List.{list_any}
-use Rattle.std.proofs.Common.{refl, sym, ap, ◌∙◌, inl, inr}
-use Rattle.std.proofs.lemmas.Bool.{and_left, and_right, both_ways, or_cases, or_left, or_right}
-use Rattle.std.proofs.lemmas.List.{map-append, take_more, take-append-drop}
-use Rattle.std.proofs.lemmas.List.Folds.{list_any-append}
+use Rattle.std.proofs.Common.{refl, sym, ap, ◌∙◌}
+use Rattle.std.proofs.lemmas.Bool.{and_left, and_right, both_ways}
 use Rattle.std.proofs.lemmas.Slice.Eq.{bytes_eq-Decides}
 use Rattle.tree_places.specs.Places.{Place}
 use Rattle.tree_places.specs.Scopes.{same_scope}
@@ -12,10 +10,6 @@ use Rattle.scope_rules.specs.Bindings.{at_home, declares_at, same_name}
 use Rattle.scope_rules.specs.Faults.{is_redeclaration, is_single_at, redeclares}
 use Rattle.scope_rules.specs.Homes.{declares_plainly, home, is_joinable, is_single}
 use Rattle.list_laws.proofs.AnyOf.{any_same, any_weaken}
-use Rattle.place_list.specs.TableViews.{place_in}
-use Rattle.scope_tables.specs.Views.{places_of}
-use Rattle.place_list.specs.declared.tables.PlaceEntry.{PlaceEntry}
-use Rattle.place_list.specs.declared.tables.PlaceList.{PlaceList}
 
 pub same_bytes_flip : (x y : List ℕ) → bytes_eq x y ≡ bytes_eq y x
 same_bytes_flip x y = go _ refl _ refl

@@ -1,6 +1,6 @@
 -- The place of a node, where nodes rise along the places.
-use Rattle.std.specs.Prelude.{◌≡◌, ◌<◌, ◌≤◌, ◌⊎◌, ℕ, zero, suc, Bool, true, false, List, [], ◌∷◌, length, map, get_or, nat_eq, slice_get, Some, MatchResult}
-use Rattle.std.specs.List.{HoldsAt, list_any}
+use Rattle.std.specs.Prelude.{◌≡◌, ◌<◌, ◌≤◌, ◌⊎◌, ℕ, zero, suc, true, false, List, [], ◌∷◌, length, map, get_or, nat_eq, slice_get, Some, MatchResult}
+use Rattle.std.specs.List.{HoldsAt}
 use Rattle.std.specs.List.Sorted.{IsBinarySearchResult, IsNonDecreasingBy, IsPartitionPoint, IsSearchInRange}
 use Rattle.std.specs.Ordering.{nat_cmp, ordering_index}
 use Rattle.std.specs.declared.cmp.Ordering.TheVariants.{Equal, Greater, Less}
@@ -10,7 +10,7 @@ use Rattle.std.proofs.lemmas.Bool.Decides.{nat_tests}
 use Rattle.std.proofs.lemmas.Cmp.{ranked}
 use Rattle.std.proofs.lemmas.Simd.{map-map}
 use Rattle.list_laws.proofs.AnyOf.{any_from, any_map, any_none}
-use Rattle.list_laws.proofs.Members.{In, contains_from_in, in_from_Contains}
+use Rattle.list_laws.proofs.Members.{contains_from_in, in_from_Contains}
 use Rattle.place_list.proofs.PlacesStand.{mapped_at}
 use Rattle.place_list.specs.TableViews.{entry_view, lists_in, places_in}
 use Rattle.place_list.specs.Tables.{place_of, site_of}

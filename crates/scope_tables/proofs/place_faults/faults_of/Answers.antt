@@ -1,5 +1,5 @@
 use Rattle.std.specs.Prelude.{List, Option, ℕ}
-use Rattle.std.proofs.Common.{sym, ap, ◌∙◌}
+use Rattle.std.proofs.Common.{ap, ◌∙◌}
 use Rattle.place_list.specs.TableViews.{place_in}
 use Rattle.place_list.specs.Tables.{place_of}
 use Rattle.scope_rules.specs.Bindings.{Bound, bound, same_name}

@@ -1,4 +1,4 @@
-use Rattle.std.specs.Prelude.{◌<◌, ℕ, List, length}
+use Rattle.std.specs.Prelude.{◌<◌, ℕ, List}
 use Rattle.std.proofs.Common.{ap, subst, sym, ◌∙◌}
 use Rattle.place_list.specs.TableViews.{places_in}
 use Rattle.scope_tables.specs.FaultsOf.{place_faults}
