@@ -1,0 +1,4 @@
+pub mod Inline
+pub mod Beside
+pub mod Named
+pub mod Found
