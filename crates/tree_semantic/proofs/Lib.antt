@@ -1,0 +1,6 @@
+pub mod NodesTold
+pub mod ClassesTold
+pub mod Renaming
+pub mod OneMore
+pub mod Listed
+pub mod Analysed
