@@ -47,6 +47,7 @@ module _ (t : Parts) (whole l : PlaceList) (listed : IsListOf t whole l) (m : Sc
         scopes = ap scopes_in list ∙ listed.scopes;
         scope_nodes = ap scope_nodes_in list ∙ listed.scope_nodes;
         withs = ap withs_in list ∙ listed.withs;
+        class_bodies = ap (λ (q : PlaceList). length q.class_bodies.items) list ∙ listed.class_bodies;
         nodes = nodes ∙ ap (map told) listed.nested_nodes;
         classes = subst (λ (n : ℕ). AreClassesOf (places t) n s.classes) (ap (λ (q : PlaceList). length q.class_bodies.items) same ∙ listed.class_bodies)
             (subst (λ (ps : List Place). AreClassesOf ps (length m.list.class_bodies.items) s.classes) places_same classes);

@@ -1,5 +1,5 @@
 -- An analysis under other names of symbols.
-use Rattle.std.specs.Prelude.{◌≡◌}
+use Rattle.std.specs.Prelude.{◌≡◌, length}
 use Rattle.std.proofs.Common.{ap, ◌∙◌}
 use Rattle.place_list.specs.TableViews.{withs_in}
 use Rattle.tree_nodes.specs.Tree.{Parts}
@@ -17,6 +17,7 @@ module _ (s : Semantic) (x : Scoping) (ok : IsScoping x) (same : x ≡ under_nam
     scopes = ap scopes_of same ∙ a.scopes;
     scope_nodes = ap scope_nodes_of same ∙ a.scope_nodes;
     withs = ap (λ (y : Scoping). withs_in (tables_of y).list) same ∙ a.withs;
+    class_bodies = ap (λ (y : Scoping). length (tables_of y).list.class_bodies.items) same ∙ a.class_bodies;
     nodes = a.nodes;
     classes = a.classes;
     faultless = a.faultless;

@@ -31,6 +31,7 @@ pub record IsSemanticOf (t : Parts) (s : Semantic) : Type 0 where
   pub scopes : scopes_of s.scoping ≡ scopes t
   pub scope_nodes : scope_nodes_of s.scoping ≡ scope_nodes t
   pub withs : withs_in (tables_of s.scoping).list ≡ withs t
+  pub class_bodies : length (tables_of s.scoping).list.class_bodies.items ≡ (seen t).classes
   pub nodes : nodes_in s.nodes ≡ map told (nested_nodes t)
   pub classes : AreClassesOf (places t) (seen t).classes s.classes
   pub faultless : IsFalse (has_fault same_name (places t))
