@@ -1,5 +1,5 @@
 -- The classes of a list, and the class that declares a private name at a node.
-use Rattle.std.specs.Prelude.{◌≡◌, ◌<◌, ◌+◌, ◌++◌, ◌∷◌, [], ℕ, zero, suc, Bool, true, false, List, length, map, take, get_or, slice_get, Option, Some, None, IfSome, find, nat_eq, option_map, if◌then◌else◌}
+use Rattle.std.specs.Prelude.{◌≡◌, ◌<◌, ◌+◌, ◌++◌, ◌∷◌, [], ℕ, zero, suc, Bool, true, false, List, length, map, take, get_or, slice_get, Option, Some, None, IfSome, find, is_some, nat_eq, option_map, if◌then◌else◌}
 use Rattle.std.specs.List.{AllByRecursion, range_with_len}
 use Rattle.std.proofs.Common.{refl, sym, ap, ◌∙◌, subst, arith, add-one}
 use Rattle.std.proofs.lemmas.List.{get_or-map, length-map, length_push, map_push, take_all, take_more}
@@ -17,7 +17,7 @@ use Rattle.place_list.specs.Tables.{lineages, list_at, place_of, setting_of, sit
 use Rattle.place_list.specs.declared.tables.ClassEntry.{ClassEntry}
 use Rattle.place_list.specs.declared.tables.PlaceEntry.{PlaceEntry}
 use Rattle.place_list.specs.declared.tables.PlaceList.{PlaceList}
-use Rattle.scope_rules.specs.Bindings.{node}
+use Rattle.scope_rules.specs.Bindings.{node, same_name}
 use Rattle.scope_rules.specs.Evals as evals
 use Rattle.scope_rules.specs.PrivateNames as names
 use Rattle.scope_rules.specs.Symbols.{own_number}
@@ -127,8 +127,8 @@ rows_more l count rs r more h a one pushed =
     })
 
 pub classes_are : (l : PlaceList) → IsBounded (list_view l) → (c : Classes) → AreRowsOf l (length l.class_bodies.items) c.rows.items → ((n : ℕ) → get_or c.node_classes.items n None ≡ node_class (places_in l) n)
-    → AreClassesOf (places_in l) (length l.class_bodies.items) c
-classes_are l bounded c a by =
+    → ((p : Place) → is_some (class_of_place (places_in l) p) ≡ is_some (names.private_binding same_name (places_in l) p)) → AreClassesOf (places_in l) (length l.class_bodies.items) c
+classes_are l bounded c a by bound =
     let many : length (class_parents l) ≡ length l.class_bodies.items = length-map l.class_bodies.items (λ (e : ClassEntry). e.parent) in
     let parents : parents_in c ≡ class_parents l = a.parents ∙ take_all (length l.class_bodies.items) (class_parents l) (omega (arith, many)) in
     record {
@@ -137,6 +137,7 @@ classes_are l bounded c a by =
       names = a.names;
       are_open = a.are_open;
       by_node = by;
+      bound = bound;
     }
 
 -- what is read of a class

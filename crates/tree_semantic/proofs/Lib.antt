@@ -1,5 +1,6 @@
 pub mod NodesTold
 pub mod ClassesTold
+pub mod Declared
 pub mod Renaming
 pub mod OneMore
 pub mod Listed

@@ -1,11 +1,11 @@
 -- The classes of a tree by ids, as data.
-use Rattle.std.specs.Prelude.{◌≡◌, ℕ, Bool, List, [], ◌∷◌, map, length, take, get_or, slice_get, Option, Some, None, option_map, find, nat_eq, ⊤, if◌then◌else◌}
+use Rattle.std.specs.Prelude.{◌≡◌, ℕ, Bool, false, List, [], ◌∷◌, map, length, take, get_or, slice_get, Option, Some, None, is_some, option_map, find, nat_eq, ⊤, if◌then◌else◌}
 use Rattle.std.specs.List.{AllByRecursion, range_with_len}
 use Rattle.oxc_str.specs.Ident.{ident_text}
 use Rattle.place_list.specs.TableViews.{class_parents, places_in}
 use Rattle.place_list.specs.declared.tables.PlaceEntry.{PlaceEntry}
 use Rattle.place_list.specs.declared.tables.PlaceList.{PlaceList}
-use Rattle.scope_rules.specs.Bindings.{node}
+use Rattle.scope_rules.specs.Bindings.{node, same_name}
 use Rattle.scope_rules.specs.Evals as evals
 use Rattle.scope_rules.specs.PrivateNames as names
 use Rattle.scope_rules.specs.Symbols.{own_number}
@@ -39,6 +39,10 @@ class_of_place ps p = if p.site.private then names.declaring_class ps p.name p.s
 unfoldable pub node_class : List Place → ℕ → Option ℕ
 node_class ps n = elim (find (λ p. nat_eq (node p) n) ps) [ None ↦ None | Some p ↦ class_of_place ps p ]
 
+-- the place that is the node n is a private name
+unfoldable pub is_private_node : List Place → ℕ → Bool
+is_private_node ps n = elim (find (λ p. nat_eq (node p) n) ps) [ None ↦ false | Some p ↦ p.site.private ]
+
 -- the nodes of the entries of a list
 abbrev pub nodes_of : List PlaceEntry → List ℕ
 nodes_of es = map (λ e. e.node) es
@@ -63,3 +67,5 @@ pub record AreClassesOf (ps : List Place) (count : ℕ) (c : Classes) : Type 0 w
   pub names : names_in c ≡ map (names.private_names ps) (range_with_len 0 count)
   pub are_open : open_in c ≡ map (evals.is_open ps) (range_with_len 0 count)
   pub by_node : (n : ℕ) → get_or c.node_classes.items n None ≡ node_class ps n
+  -- a private name has a class exactly where it has a binding
+  pub bound : (p : Place) → is_some (class_of_place ps p) ≡ is_some (names.private_binding same_name ps p)

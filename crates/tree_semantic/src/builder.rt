@@ -5,7 +5,7 @@ ghost use Rattle.scope_rules.specs.Bindings.{same_name};
 ghost use Rattle.scope_rules.specs.Faults.{has_fault};
 ghost use Rattle.tree_nodes.specs.Tree.{alone};
 ghost use Rattle.tree_places.specs.Places.{places};
-ghost use Rattle.tree_semantic.specs.Semantics.{IsSemanticOf};
+ghost use Rattle.tree_semantic.specs.Semantics.{IsSemantic, IsSemanticOf};
 ghost use Rattle.tree_semantic.specs.declared.builder.SemanticError.TheVariants.{BadScope};
 
 use crate::classes::Classes;
@@ -63,7 +63,8 @@ impl SemanticBuilder {
         alloc: Global,
         program: &'t Program,
     ) -> Result<Semantic<'t>, SemanticError>
-        ensures semantic { IfOk result (λ s. IsSemanticOf (alone program.now) s) }
+        ensures semantic { IfOk result (λ s. IsSemantic s) }
+        ensures of_program { IfOk result (λ s. IsSemanticOf (alone program.now) s) }
         ensures bad_scope { IfErr result (λ e. e ≡ BadScope → IsTrue (has_fault same_name (places (alone program.now)))) }
     {
         let mut list = list_places_and_nodes(alloc, program.root())?;

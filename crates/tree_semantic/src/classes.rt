@@ -1,17 +1,19 @@
 //! The classes of a tree, by ids.
 
-ghost use Rattle.std.specs.Prelude.{◌≡◌, ◌<◌, ◌≤◌, ◌-◌, ◌^◌, [], ℕ, IfOk, IfSome, List, None, false, get_or, length, map, option_map, slice_get};
+ghost use Rattle.std.specs.Prelude.{◌≡◌, ◌<◌, ◌≤◌, ◌-◌, ◌^◌, [], ℕ, IfOk, IfSome, IsFalse, List, None, false, get_or, is_some, length, map, option_map, slice_get};
 ghost use Rattle.class_tables.specs.PrivateTables.{IsWhole, list_in};
 ghost use Rattle.number_tables.specs.PlacedNumbers.{RiseFrom};
 ghost use Rattle.oxc_str.specs.Ident.{ident_text};
 ghost use Rattle.std.specs.List.{AllByRecursion};
 ghost use Rattle.place_list.specs.Bounds.{IsBounded};
 ghost use Rattle.place_list.specs.TableViews.{list_view, places_in};
+ghost use Rattle.scope_rules.specs.Bindings.{same_name};
+ghost use Rattle.scope_rules.specs.Faults.{has_fault};
 ghost use Rattle.syntax_sem.specs.ClassId as class_id;
 ghost use Rattle.syntax_sem.specs.NodeId as node_id;
 ghost use Rattle.tree_places.specs.Laws as laws;
 ghost use Rattle.tree_places.specs.Places.{Place};
-ghost use Rattle.tree_semantic.specs.ClassBodies.{AreClassesOf, AreRowsOf, IsRowOf, class_of_place, names_in, node_class, nodes_of, open_in, parents_in};
+ghost use Rattle.tree_semantic.specs.ClassBodies.{AreClassesOf, AreRowsOf, IsRowOf, class_of_place, is_private_node, names_in, node_class, nodes_of, open_in, parents_in};
 
 use class_tables::PrivateTable;
 use number_tables::place_numbers;
@@ -89,7 +91,8 @@ impl<'t> Classes<'t> {
     /// The class that declares the private name at a node: none exactly where the node is no PrivateIdentifier, in
     /// a tree without faults.
     pub fn node_class(&self, id: NodeId) -> Option<ClassId>
-        ensures { (ps : List Place) (count : ℕ) → AreClassesOf ps count self.now → option_map class_id.number_of result ≡ node_class ps (node_id.number_of id) }
+        ensures class { (ps : List Place) (count : ℕ) → AreClassesOf ps count self.now → option_map class_id.number_of result ≡ node_class ps (node_id.number_of id) }
+        ensures exactly { (ps : List Place) (count : ℕ) → AreClassesOf ps count self.now → IsFalse (has_fault same_name ps) → is_some result ≡ is_private_node ps (node_id.number_of id) }
     {
         let n = id.index();
         class_of(number_or_none(self.node_classes.as_slice(), n))

@@ -11,7 +11,7 @@ ghost use Rattle.syntax_sem.specs.SymbolId.{number_of};
 ghost use Rattle.tree_nodes.specs.Tree.{Parts};
 ghost use Rattle.tree_places.specs.Places.{places, scopes};
 ghost use Rattle.tree_semantic.specs.Semantics.{IsSemantic, IsSemanticOf, classes_of, nodes_of, scoping_of};
-ghost use Rattle.tree_symbols.specs.Scopings.{name_set, places_of};
+ghost use Rattle.tree_symbols.specs.Scopings.{IsScoping, name_set, places_of};
 
 use crate::classes::Classes;
 use crate::nodes::AstNodes;
@@ -39,7 +39,9 @@ pub struct Semantic<'t> {
 impl<'t> Semantic<'t> {
     /// Its symbols, references and scopes.
     pub fn scoping(&self) -> &Scoping<'t>
-        ensures { result.now ≡ scoping_of self.now }
+        requires { IsSemantic self.now }
+        ensures own { result.now ≡ scoping_of self.now }
+        ensures sound { IsScoping result.now }
     {
         &self.scoping
     }
@@ -76,7 +78,9 @@ impl<'t> Semantic<'t> {
 
     /// The symbols, references and scopes alone.
     pub fn into_scoping(self) -> Scoping<'t>
-        ensures { result ≡ scoping_of self.entry }
+        requires { IsSemantic self }
+        ensures own { result ≡ scoping_of self.entry }
+        ensures sound { IsScoping result }
     {
         self.scoping
     }
