@@ -1,10 +1,11 @@
 -- What is built of a program is its analysis.
 use Rattle.std.specs.Prelude.{◌≡◌, ◌≤◌, ◌-◌, ◌^◌, ℕ, Bool, IsFalse, List, Result, IfErr, length, map}
 use Rattle.std.specs.Result.{IsErrAnd}
-use Rattle.std.proofs.Common.{ap, subst, sym, ◌∙◌}
+use Rattle.std.proofs.Common.{ap, subst, sym, ◌∙◌, Vec, Global}
 use Rattle.std.proofs.lemmas.Result.{err_from_is_err_and}
 use Rattle.place_list.specs.Nodes.{nested_nodes, scope_nodes}
 use Rattle.place_list.specs.TableViews.{nested_nodes_in, places_in, scope_nodes_in, scopes_in, withs_in}
+use Rattle.place_list.specs.declared.tables.NodeEntry.{NodeEntry}
 use Rattle.place_list.specs.declared.tables.PlaceList.{PlaceList}
 use Rattle.scope_rules.specs.Bindings.{same_name}
 use Rattle.scope_rules.specs.Faults.{has_fault}
@@ -27,6 +28,10 @@ pub record IsListOf (t : Parts) (whole l : PlaceList) : Type 0 where
   pub withs : withs_in l ≡ withs t
   pub nested_nodes : nested_nodes_in whole ≡ nested_nodes t
   pub class_bodies : length l.class_bodies.items ≡ (seen t).classes
+
+pub list_of : (t : Parts) (whole : PlaceList) (nodes : Vec NodeEntry Global) → places_in whole ≡ places t → scopes_in whole ≡ scopes t → scope_nodes_in whole ≡ scope_nodes t → withs_in whole ≡ withs t
+    → nested_nodes_in whole ≡ nested_nodes t → length whole.class_bodies.items ≡ (seen t).classes → IsListOf t whole (record whole { node_entries = nodes })
+list_of t whole nodes ps ss ns ws ms cs = record { places = ps; scopes = ss; scope_nodes = ns; withs = ws; nested_nodes = ms; class_bodies = cs }
 
 module _ (t : Parts) (whole l : PlaceList) (listed : IsListOf t whole l) (m : ScopeTables) (same : m.list ≡ l) where
   places_same : places_in m.list ≡ places t
