@@ -1,0 +1,8 @@
+-- what is asked
+pub mod OptionsTold
+pub mod NodesCounted
+-- private names, class by class
+pub mod LookedUp
+pub mod ClassNamesFound
+-- all together
+pub mod AllFound
