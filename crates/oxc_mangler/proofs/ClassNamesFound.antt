@@ -9,9 +9,11 @@ use Rattle.std.proofs.lemmas.List.{get_or_past, length-map}
 use Rattle.class_tables.proofs.ListedPlaces.{class_below}
 use Rattle.list_laws.proofs.AllOf.{of_each}
 use Rattle.list_laws.proofs.Members.{In, from_map, in_from_Contains, in_map}
+use Rattle.list_laws.proofs.Tests.{none_some, some_one}
+use Rattle.name_rules.proofs.Identifiers.{short_names_are_identifiers}
 use Rattle.name_rules.specs.PrivateNumbers.{index_of, private_number}
 use Rattle.name_rules.specs.ShortNames.{short}
-use Rattle.oxc_mangler.proofs.LookedUp.{listed, unlisted}
+use Rattle.oxc_mangler.proofs.LookedUp.{from_looked_up, listed, unlisted}
 use Rattle.oxc_mangler.specs.ClassNames.{AreClassNames, looked_up, new_class_name}
 use Rattle.place_list.specs.Bounds.{IsBounded, IsKnown}
 use Rattle.place_list.specs.TableViews.{classes_at, entry_view, list_view, lists_in, places_in}
@@ -22,6 +24,7 @@ use Rattle.private_numbers.proofs.Declared.{Follow, declared_number, number_is}
 use Rattle.private_numbers.proofs.Outward.{classes_follow, from_class}
 use Rattle.private_numbers.specs.Numbers.{class_number, classes_around}
 use Rattle.scope_rules.specs.PrivateNames.{declaring_class, is_among, private_names}
+use Rattle.syntax_lex.specs.Identifier.{is_identifier_name}
 use Rattle.tree_nodes.specs.Tree.{Text}
 use Rattle.tree_places.proofs.Outwards.{same_scope_eq}
 use Rattle.tree_places.specs.Places.{Place}
@@ -85,9 +88,19 @@ module _ (l : PlaceList) (bounded : IsBounded (list_view l)) where
         ∙ ap (new_class_name l c) (let z : 0 + index_of x (private_names (places_in l) c) ≡ index_of x (private_names (places_in l) c) = omega arith in z)
         ∙ ap (option_map short) (sym (number_told c outer x follow among))
 
+    of_number : (n : Option ℕ) (y : Text) → option_map short n ≡ Some y → is_identifier_name y ≡ true
+    of_number None y e = absurd (none_some y e)
+    of_number (Some k) y e = ap is_identifier_name (sym (some_one (short k) y e)) ∙ short_names_are_identifiers k
+
+    identifier : (c : ℕ) (x y : Text) (b : Bool) → cond b (names_of l c x) None ≡ Some y → is_identifier_name y ≡ true
+    unfolding new_class_name
+    identifier c x y true e = let i = from_looked_up (new_class_name l c) (private_names (places_in l) c) 0 x y e in of_number (class_number (places_in l) (classes_around l c) c i.0) y i.1
+    identifier c x y false e = absurd (none_some y e)
+
     pub names_found : class_count m ≡ length l.class_bodies.items → AreClassNames (places_in l) (length l.class_bodies.items) m
     names_found count = record {
       count = count;
       declared = declares;
       no_others = λ c x none. names c x ∙ none_else c x none (nat_lt c (length l.class_bodies.items));
+      identifiers = λ c x y e. identifier c x y (nat_lt c (length l.class_bodies.items)) (sym (names c x) ∙ e);
     }

@@ -6,7 +6,7 @@ use Rattle.std.specs.Prelude.{◌⊎◌}
 use Rattle.std.proofs.lemmas.Bool.{both_ways, cases_lt, eq-eqb, eqb-false, eqb-true, or_parts}
 use Rattle.std.proofs.lemmas.List.{get_or_past, length-map, length-take-le, take_more}
 use Rattle.class_tables.proofs.Distinct.{same_flips}
-use Rattle.list_laws.proofs.Tests.{tested}
+use Rattle.list_laws.proofs.Tests.{none_some, tested}
 use Rattle.name_rules.specs.PrivateNumbers.{index_of}
 use Rattle.oxc_mangler.specs.ClassNames.{looked_up}
 use Rattle.scope_rules.proofs.SameNames.{same_name_tells}
@@ -92,6 +92,14 @@ module _ (f : ℕ → Option Text) where
       ∙ looked_push (take i ys) (get_or ys i []) 0 x new
       ∙ ap (λ (m : ℕ). cond (same_name (get_or ys i []) x) (f m) (looked_up (take i ys) f 0 x)) (let l : 0 + length (take i ys) ≡ i = omega (arith, length-take-le i ys (omega (arith, h))) in l)
       ∙ ap (λ (z : Text). cond (same_name z x) (f i) (looked_up (take i ys) f 0 x)) (sym e))
+
+  -- it is what the function has somewhere
+  pub from_looked_up : (ys : List Text) (n : ℕ) (x z : Text) → looked_up ys f n x ≡ Some z → (i : ℕ) × (f i ≡ Some z)
+  unfolding looked_up
+  from_looked_up [] n x z e = absurd (none_some z e)
+  from_looked_up (y ∷ ys) n x z e = tested (same_name y x)
+      (λ t. (n, sym (ap (λ (b : Bool). cond b (f n) (looked_up ys f (suc n) x)) t) ∙ e))
+      (λ t. from_looked_up ys (suc n) x z (sym (ap (λ (b : Bool). cond b (f n) (looked_up ys f (suc n) x)) t) ∙ e))
 
 -- ---- names of one class among those of all
 

@@ -20,6 +20,6 @@ asked None t = record { top_level = renames_root None t; keep_functions = false;
 asked (Some o) t = asked_with o t
 
 -- the names that are reserved
-unfoldable pub reserved_by : Option MangleOptions → List Text
+abbrev pub reserved_by : Option MangleOptions → List Text
 reserved_by None = []
 reserved_by (Some o) = reserved_in o

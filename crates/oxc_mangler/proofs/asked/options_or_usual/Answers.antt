@@ -13,9 +13,7 @@ returns-in-None-clause-asked c = λ t.
     ∙ sym (ap (λ o. asked o t) c.in-None.is)
 
 pub returns-in-Some-clause-reserved : goal.returns-in-Some-clause-reserved
-unfolding reserved_by
 returns-in-Some-clause-reserved c = sym (ap reserved_by c.in-Some.is)
 
 pub returns-in-None-clause-reserved : goal.returns-in-None-clause-reserved
-unfolding reserved_by
 returns-in-None-clause-reserved c = c.new.ensures.reserved ∙ sym (ap reserved_by c.in-None.is)
