@@ -1,5 +1,5 @@
 -- What is looked up in a list of different names, one name after another.
-use Rattle.std.specs.Prelude.{◌≡◌, ◌<◌, ◌≤◌, ℕ, zero, suc, ◌+◌, ◌-◌, Bool, true, false, cond, ◌&&◌, ◌||◌, nat_eq, nat_lt, List, [], ◌∷◌, ◌++◌, length, map, take, get_or, Option, Some, None}
+use Rattle.std.specs.Prelude.{◌≡◌, ◌<◌, ◌≤◌, ℕ, zero, suc, ◌+◌, ◌-◌, Bool, true, false, cond, ◌&&◌, ◌||◌, nat_eq, nat_lt, List, [], ◌∷◌, ◌++◌, filter, length, map, take, get_or, Option, Some, None}
 use Rattle.std.specs.List.{list_any}
 use Rattle.std.proofs.Common.{refl, sym, ap, ◌∙◌, subst, arith, inl, inr, lt-ltb, le-ltb}
 use Rattle.std.specs.Prelude.{◌⊎◌}
@@ -11,8 +11,9 @@ use Rattle.name_rules.specs.PrivateNumbers.{index_of}
 use Rattle.oxc_mangler.specs.ClassNames.{looked_up}
 use Rattle.scope_rules.proofs.SameNames.{same_name_tells}
 use Rattle.scope_rules.specs.Bindings.{same_name}
-use Rattle.scope_rules.specs.PrivateNames.{distinct, distinct_after, is_among}
+use Rattle.scope_rules.specs.PrivateNames.{declares_private, distinct, distinct_after, is_among, private_names}
 use Rattle.tree_nodes.specs.Tree.{Text}
+use Rattle.tree_places.specs.Places.{Place}
 
 same_told : (x y : Text) → same_name x y ≡ true → x ≡ y
 same_told x y e = (same_name_tells x y).0 e
@@ -49,6 +50,12 @@ different_after before (x ∷ xs) i h = go (is_among before x) refl (different_a
 pub different_names : (xs : List Text) (i : ℕ) → i < length (distinct xs) → is_among (take i (distinct xs)) (get_or (distinct xs) i []) ≡ false
 unfolding distinct
 different_names xs i h = (different_after [] xs i h).first
+
+pub different_private : (ps : List Place) (c : ℕ) (ys : List Text) (i : ℕ) → ys ≡ private_names ps c → i < length ys → is_among (take i ys) (get_or ys i []) ≡ false
+unfolding private_names
+different_private ps c ys i e h =
+    subst (λ (zs : List Text). is_among (take i zs) (get_or zs i []) ≡ false) (sym e)
+    (different_names (map (λ (p : Place). p.name) (filter (λ (p : Place). declares_private c p.site) ps)) i (subst (λ (zs : List Text). i < length zs) e h))
 
 -- ---- what is looked up
 
@@ -104,10 +111,18 @@ module _ (f : ℕ → Option Text) where
 -- ---- names of one class among those of all
 
 -- what is put at a class
-pub put_at : (here : Bool) (same : Bool) (put old before after : Option Text) → (here ≡ true → old ≡ before) → cond same put before ≡ after → cond (here && same) put old ≡ cond here after old
-put_at true true put old before after h e = e
-put_at true false put old before after h e = h refl ∙ e
-put_at false same put old before after h e = refl
+pub one_put : (here same : Bool) (put old before after first : Option Text) → old ≡ cond here before first → cond same put before ≡ after → cond (here && same) put old ≡ cond here after first
+one_put true true put old before after first h e = e
+one_put true false put old before after first h e = h ∙ e
+one_put false same put old before after first h e = h
+
+-- where nothing is put yet
+pub none_put : (b k : ℕ) (old : Option Text) → (b ≡ k → old ≡ None) → old ≡ cond (nat_eq b k) None old
+none_put b k old h = go (nat_eq b k) refl
+  where
+    go : (q : Bool) → nat_eq b k ≡ q → old ≡ cond q None old
+    go true e = h (eqb-true b k e)
+    go false e = refl
 
 -- what one more class has
 pub one_class : (F : ℕ → Option Text) (b k : ℕ) (here old new : Option Text) → old ≡ cond (nat_lt k b) (F k) None → here ≡ F b → new ≡ cond (nat_eq b k) here old → new ≡ cond (nat_lt k (b + 1)) (F k) None
