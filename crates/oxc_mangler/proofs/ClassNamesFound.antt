@@ -47,11 +47,11 @@ names_of l c x = looked_up (private_names (places_in l) c) (new_class_name l c) 
 follow_inside : (from : ℕ → List ℕ) (n : ℕ) (cs : List ℕ) (c : ℕ) (outer : List ℕ) → Follow from n cs → is_inside cs (c ∷ outer) ≡ true → Follow from n (c ∷ outer)
 unfolding is_inside
 follow_inside from n [] c outer f h = subst (Follow from n) (same_scope_eq [] (c ∷ outer) h) f
-follow_inside from n (d ∷ ds) c outer f h = go (or_cases _ _ h)
+follow_inside from n (d ∷ ds) c outer f h = go (or_cases _ _ h) (follow_inside from n ds c outer f.2)
   where
-    go : (same_scope (d ∷ ds) (c ∷ outer) ≡ true) ⊎ (is_inside ds (c ∷ outer) ≡ true) → Follow from n (c ∷ outer)
-    go (inl e) = subst (Follow from n) (same_scope_eq (d ∷ ds) (c ∷ outer) e) f
-    go (inr e) = follow_inside from n ds c outer f.2 e
+    go : (same_scope (d ∷ ds) (c ∷ outer) ≡ true) ⊎ (is_inside ds (c ∷ outer) ≡ true) → (is_inside ds (c ∷ outer) ≡ true → Follow from n (c ∷ outer)) → Follow from n (c ∷ outer)
+    go (inl e) ih = subst (Follow from n) (same_scope_eq (d ∷ ds) (c ∷ outer) e) f
+    go (inr e) ih = ih e
 
 module _ (l : PlaceList) (bounded : IsBounded (list_view l)) where
   -- those around a place follow each other

@@ -10,6 +10,13 @@ unfolding or_else
 nothing_else None = refl
 nothing_else (Some x) = refl
 
+-- where no name is set
+pub nothing_set : {X : Type 0} (o : Option X) (b : Bool) (old : Option X) → ((x : X) → o ≡ Some x → ⊥) → old ≡ cond b (or_else o old) old
+unfolding or_else
+nothing_set None true old h = refl
+nothing_set None false old h = refl
+nothing_set (Some x) b old h = absurd (h x refl)
+
 -- the names of the symbols before the i-th
 abbrev pub up_to : {X : Type 0} → List (Option X) → ℕ → ℕ → Option X
 up_to names i k = cond (nat_lt k i) (get_or names k None) None

@@ -52,36 +52,39 @@ module _ {X Y : Type 0} (test : X → Bool) (f : ℕ → Y) where
   pub stands : (xs : List X) (n k : ℕ) (x : X) (d : Y) → slice_get (filter test xs) k ≡ Some x → Stands xs n k x d
   unfolding beside
   stands [] n k x d e = absurd (none_some x e)
-  stands (y ∷ xs) n k x d e = go (test y) refl e
+  stands (y ∷ xs) n k x d e = go (test y) refl k e (λ j. stands xs (suc n) j x d)
     where
-      later : (b : Bool) → test y ≡ b → (j m : ℕ) → Stands xs (suc n) j x d → get_or (cond b (f n ∷ beside (map test xs) f (suc n)) (beside (map test xs) f (suc n))) m d ≡ get_or (beside (map test xs) f (suc n)) j d → Stands (y ∷ xs) n m x d
+      rest : List Y
+      rest = beside (map test xs) f (suc n)
+
+      later : (b : Bool) → test y ≡ b → (j m : ℕ) → Stands xs (suc n) j x d → get_or (cond b (f n ∷ rest) rest) m d ≡ get_or rest j d → Stands (y ∷ xs) n m x d
       later b t j m s same = record {
         index = suc s.index;
         is = s.is;
         passes = s.passes;
-        beside_it = ap (λ (c : Bool). get_or (cond c (f n ∷ beside (map test xs) f (suc n)) (beside (map test xs) f (suc n))) m d) t ∙ same ∙ s.beside_it ∙ ap f (let l : suc n + s.index ≡ n + suc s.index = omega arith in l);
+        beside_it = ap (λ (c : Bool). get_or (cond c (f n ∷ rest) rest) m d) t ∙ same ∙ s.beside_it ∙ ap f (let l : suc n + s.index ≡ n + suc s.index = omega arith in l);
       }
 
-      here : test y ≡ true → (m : ℕ) → slice_get (y ∷ filter test xs) m ≡ Some x → Stands (y ∷ xs) n m x d
-      here t zero g = record {
+      here : test y ≡ true → (m : ℕ) → slice_get (y ∷ filter test xs) m ≡ Some x → ((j : ℕ) → slice_get (filter test xs) j ≡ Some x → Stands xs (suc n) j x d) → Stands (y ∷ xs) n m x d
+      here t zero g ih = record {
         index = 0;
         is = g;
         passes = ap test (sym (some_one y x g)) ∙ t;
-        beside_it = ap (λ (c : Bool). get_or (cond c (f n ∷ beside (map test xs) f (suc n)) (beside (map test xs) f (suc n))) 0 d) t ∙ ap f (let l : n ≡ n + 0 = omega arith in l);
+        beside_it = ap (λ (c : Bool). get_or (cond c (f n ∷ rest) rest) 0 d) t ∙ ap f (let l : n ≡ n + 0 = omega arith in l);
       }
-      here t (suc j) g = later true t j (suc j) (stands xs (suc n) j x d g) refl
+      here t (suc j) g ih = later true t j (suc j) (ih j g) refl
 
-      go : (b : Bool) → test y ≡ b → slice_get (cond b (y ∷ filter test xs) (filter test xs)) k ≡ Some x → Stands (y ∷ xs) n k x d
-      go true t g = here t k g
-      go false t g = later false t k k (stands xs (suc n) k x d g) refl
+      go : (b : Bool) → test y ≡ b → (m : ℕ) → slice_get (cond b (y ∷ filter test xs) (filter test xs)) m ≡ Some x → ((j : ℕ) → slice_get (filter test xs) j ≡ Some x → Stands xs (suc n) j x d) → Stands (y ∷ xs) n m x d
+      go true t m g ih = here t m g ih
+      go false t m g ih = later false t m m (ih m g) refl
 
 -- what stands there is what the function has somewhere
 pub from_beside : {Y : Type 0} (bs : List Bool) (f : ℕ → Option Y) (n k : ℕ) (y : Y) → get_or (beside bs f n) k None ≡ Some y → (i : ℕ) × (f i ≡ Some y)
 unfolding beside
 from_beside [] f n k y e = absurd (none_some y e)
-from_beside {Y} (b ∷ bs) f n k y e = go b k e
+from_beside {Y} (b ∷ bs) f n k y e = go b k e (λ m. from_beside bs f (suc n) m y)
   where
-    go : (c : Bool) (m : ℕ) → get_or (cond c (f n ∷ beside bs f (suc n)) (beside bs f (suc n))) m None ≡ Some y → (i : ℕ) × (f i ≡ Some y)
-    go true zero g = (n, g)
-    go true (suc m) g = from_beside bs f (suc n) m y g
-    go false m g = from_beside bs f (suc n) m y g
+    go : (c : Bool) (m : ℕ) → get_or (cond c (f n ∷ beside bs f (suc n)) (beside bs f (suc n))) m None ≡ Some y → ((j : ℕ) → get_or (beside bs f (suc n)) j None ≡ Some y → (i : ℕ) × (f i ≡ Some y)) → (i : ℕ) × (f i ≡ Some y)
+    go true zero g ih = (n, g)
+    go true (suc m) g ih = ih m g
+    go false m g ih = ih m g

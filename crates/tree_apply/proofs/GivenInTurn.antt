@@ -8,9 +8,10 @@ use Rattle.kept_names.proofs.BoundPlaces.{take_read}
 use Rattle.list_laws.proofs.Members.{In}
 use Rattle.syntax_lex.specs.Identifier.{is_identifier_name}
 use Rattle.tree_apply.specs.Applied.{numbered, taken}
-use Rattle.tree_nodes.specs.Tree.{Text}
+use Rattle.tree_nodes.specs.Tree.{Parts, Text}
 use Rattle.tree_places.specs.Chosen.{chosen, given_name, or_own, spare_plain}
-use Rattle.tree_places.specs.Places.{Place}
+use Rattle.tree_places.proofs.Numbers.{one_name_each}
+use Rattle.tree_places.specs.Places.{Place, Site, named_by, names, places, sites}
 use Rattle.tree_places.specs.Renaming.{is_plain}
 
 taken_push : (os : List (Option Text)) (o : Option Text) → taken (os ++ o ∷ []) ≡ taken os ++ taken (o ∷ [])
@@ -59,21 +60,21 @@ chosen_given f (p ∷ ps) before = go (f p) (chosen_given f ps before) (λ x. ch
     rest : List (Option Text)
     rest = map f ps
 
-    names : List Text
-    names = map (λ (q : Place). q.name) ps
+    old : List Text
+    old = map (λ (q : Place). q.name) ps
 
     news : List Text
     news = map (λ (q : Place). unwrap_or (f q) q.name) ps
 
-    go : (o : Option Text) → chosen (before ++ taken rest) (numbered (length before) rest) names ≡ news
-        → ((x : Text) → chosen ((before ++ x ∷ []) ++ taken rest) (numbered (length (before ++ x ∷ [])) rest) names ≡ news)
-        → chosen (before ++ taken (o ∷ rest)) (numbered (length before) (o ∷ rest)) (p.name ∷ names) ≡ unwrap_or o p.name ∷ news
+    go : (o : Option Text) → chosen (before ++ taken rest) (numbered (length before) rest) old ≡ news
+        → ((x : Text) → chosen ((before ++ x ∷ []) ++ taken rest) (numbered (length (before ++ x ∷ [])) rest) old ≡ news)
+        → chosen (before ++ taken (o ∷ rest)) (numbered (length before) (o ∷ rest)) (p.name ∷ old) ≡ unwrap_or o p.name ∷ news
     go None here later = ap (λ xs. p.name ∷ xs) here
     go (Some x) here later =
-        ap (λ (q : Option Text). or_own q p.name ∷ chosen (before ++ x ∷ taken rest) (numbered (suc (length before)) rest) names) (there before (taken rest) x)
+        ap (λ (q : Option Text). or_own q p.name ∷ chosen (before ++ x ∷ taken rest) (numbered (suc (length before)) rest) old) (there before (taken rest) x)
         ∙ ap (λ xs. x ∷ xs)
-        (ap (λ (given : List Text). chosen given (numbered (suc (length before)) rest) names) (sym (append_assoc before (x ∷ []) (taken rest)))
-        ∙ ap (λ (n : ℕ). chosen ((before ++ x ∷ []) ++ taken rest) (numbered n rest) names) (let l : length (before ++ x ∷ []) ≡ length before + 1 = length-append before (x ∷ []) in let m : suc (length before) ≡ length (before ++ x ∷ []) = omega (arith, l) in m)
+        (ap (λ (given : List Text). chosen given (numbered (suc (length before)) rest) old) (sym (append_assoc before (x ∷ []) (taken rest)))
+        ∙ ap (λ (n : ℕ). chosen ((before ++ x ∷ []) ++ taken rest) (numbered n rest) old) (let l : length (before ++ x ∷ []) ≡ length before + 1 = length-append before (x ∷ []) in let m : suc (length before) ≡ length (before ++ x ∷ []) = omega (arith, l) in m)
         ∙ later x)
 
 -- no plain name is chosen for
@@ -109,3 +110,16 @@ each_identifier {Z} f ps names e h =
     each : (ss : List (String Z)) → ((x : Text) → In x (map string_bytes ss) → IsTrue (is_identifier_name x)) → AllByRecursion (λ s. IsTrue (is_identifier_name (string_bytes s))) ss
     each [] g = tt
     each (s ∷ ss) g = (g (string_bytes s) (inl refl), each ss (λ x i. g x (inr i)))
+
+-- ---- the sites of a tree's places
+
+sites_of_named : (ss : List Site) (xs : List Text) → length xs ≡ length ss → map (λ (p : Place). p.site) (named_by ss xs) ≡ ss
+unfolding named_by
+sites_of_named [] [] h = refl
+sites_of_named [] (x ∷ xs) h = absurd (omega (arith, h))
+sites_of_named (s ∷ ss) [] h = absurd (omega (arith, h))
+sites_of_named (s ∷ ss) (x ∷ xs) h = ap (λ ys. s ∷ ys) (sites_of_named ss xs (omega (arith, h)))
+
+pub sites_of_places : (t : Parts) → map (λ (p : Place). p.site) (places t) ≡ sites t
+unfolding places
+sites_of_places t = sites_of_named (sites t) (names t) (one_name_each t)

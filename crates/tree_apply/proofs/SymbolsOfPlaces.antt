@@ -38,31 +38,31 @@ class_of_node t p i = ap (λ (o : Option Place). elim o as (λ _. Option ℕ) [ 
 number_reads : (bs : List Place) (n k : ℕ) → number_among bs n ≡ Some k → (b : Place) × (slice_get bs k ≡ Some b) × (node b ≡ n) × In b bs
 unfolding number_among
 number_reads [] n k e = absurd (none_some k e)
-number_reads (b ∷ bs) n k e = go (nat_eq (node b) n) refl e
+number_reads (b ∷ bs) n k e = go (nat_eq (node b) n) refl e (λ j. number_reads bs n j)
   where
-    later : (o : Option ℕ) → number_among bs n ≡ o → option_map (λ j. suc j) o ≡ Some k → (c : Place) × (slice_get (b ∷ bs) k ≡ Some c) × (node c ≡ n) × In c (b ∷ bs)
-    later None f g = absurd (none_some k g)
-    later (Some j) f g =
-        let r : (c : Place) × (slice_get bs j ≡ Some c) × (node c ≡ n) × In c bs = number_reads bs n j f in
+    later : (o : Option ℕ) → number_among bs n ≡ o → option_map (λ j. suc j) o ≡ Some k → ((j : ℕ) → number_among bs n ≡ Some j → (c : Place) × (slice_get bs j ≡ Some c) × (node c ≡ n) × In c bs) → (c : Place) × (slice_get (b ∷ bs) k ≡ Some c) × (node c ≡ n) × In c (b ∷ bs)
+    later None f g ih = absurd (none_some k g)
+    later (Some j) f g ih =
+        let r : (c : Place) × (slice_get bs j ≡ Some c) × (node c ≡ n) × In c bs = ih j f in
         (r.0, subst (λ (m : ℕ). slice_get (b ∷ bs) m ≡ Some r.0) (some_one (suc j) k g) r.1, r.2, inr r.3)
 
-    go : (t : Bool) → nat_eq (node b) n ≡ t → (if◌then◌else◌ {A = Option ℕ} t (Some 0) (option_map (λ j. suc j) (number_among bs n))) ≡ Some k → (c : Place) × (slice_get (b ∷ bs) k ≡ Some c) × (node c ≡ n) × In c (b ∷ bs)
-    go true f g = (b, subst (λ (m : ℕ). slice_get (b ∷ bs) m ≡ Some b) (some_one 0 k g) refl, eqb-true (node b) n f, inl refl)
-    go false f g = later (number_among bs n) refl g
+    go : (t : Bool) → nat_eq (node b) n ≡ t → (if◌then◌else◌ {A = Option ℕ} t (Some 0) (option_map (λ j. suc j) (number_among bs n))) ≡ Some k → ((j : ℕ) → number_among bs n ≡ Some j → (c : Place) × (slice_get bs j ≡ Some c) × (node c ≡ n) × In c bs) → (c : Place) × (slice_get (b ∷ bs) k ≡ Some c) × (node c ≡ n) × In c (b ∷ bs)
+    go true f g ih = (b, subst (λ (m : ℕ). slice_get (b ∷ bs) m ≡ Some b) (some_one 0 k g) refl, eqb-true (node b) n f, inl refl)
+    go false f g ih = later (number_among bs n) refl g ih
 
 number_there : (bs : List Place) (b : Place) → In b bs → number_among bs (node b) ≡ None → ⊥
 unfolding number_among
 number_there [] b i e = absurd i
-number_there (c ∷ bs) b i e = go (nat_eq (node c) (node b)) refl i e
+number_there (c ∷ bs) b i e = go (nat_eq (node c) (node b)) refl i e (number_there bs b)
   where
     mapped : (o : Option ℕ) → option_map (λ j. suc j) o ≡ None → o ≡ None
     mapped None f = refl
     mapped (Some j) f = absurd (none_some (suc j) (sym f))
 
-    go : (t : Bool) → nat_eq (node c) (node b) ≡ t → (c ≡ b) ⊎ In b bs → (if◌then◌else◌ {A = Option ℕ} t (Some 0) (option_map (λ j. suc j) (number_among bs (node b)))) ≡ None → ⊥
-    go true f j g = none_some 0 (sym g)
-    go false f (inl same) g = both_ways false refl (sym f ∙ eq-eqb (node c) (node b) (ap node same))
-    go false f (inr j) g = number_there bs b j (mapped (number_among bs (node b)) g)
+    go : (t : Bool) → nat_eq (node c) (node b) ≡ t → (c ≡ b) ⊎ In b bs → (if◌then◌else◌ {A = Option ℕ} t (Some 0) (option_map (λ j. suc j) (number_among bs (node b)))) ≡ None → (In b bs → number_among bs (node b) ≡ None → ⊥) → ⊥
+    go true f j g ih = none_some 0 (sym g)
+    go false f (inl same) g ih = both_ways false refl (sym f ∙ eq-eqb (node c) (node b) (ap node same))
+    go false f (inr j) g ih = ih j (mapped (number_among bs (node b)) g)
 
 -- the symbol of a place has its name, and is bound as it is
 pub record Symbol (t : Parts) (p : Place) (k : ℕ) : Type 0 where

@@ -33,8 +33,8 @@ inline_names-requires g c =
     subst (λ (ss : List (String Global)). AllByRecursion (λ s. IsInline (string_bytes s)) ss) (sym c.as_slice.ensures.value)
     (names_inline o t c.requires.list.few new.limit new.low c.in_ok-new.new.names.items new.names)
 
-pub overflow_cast-count : goal.overflow_cast-count
-overflow_cast-count g c =
+pub overflow_cast-result : goal.overflow_cast-result
+overflow_cast-result g c =
     let o = options_in c.args.options.now c.args.top_level in
     let t = c.requires.list.tree in
     let new = c.in_ok-new.ensures t c.requires.list.are in
