@@ -1,0 +1,7 @@
+pub mod NodesTold
+pub mod ClassesTold
+pub mod Declared
+pub mod Renaming
+pub mod OneMore
+pub mod Listed
+pub mod Analysed

@@ -1,0 +1,20 @@
+use Rattle.std.specs.Prelude.{◌≡◌, ◌<◌, [], ℕ, Bool, List, None, Option, false, length, map, option_map}
+use Rattle.std.proofs.Common.{ap, arith, sym, ◌∙◌}
+use Rattle.std.proofs.lemmas.List.{length-map}
+use Rattle.oxc_str.specs.Ident.{ident_text}
+use Rattle.syntax_sem.specs.ClassId.{number_of}
+use Rattle.tree_semantic.specs.ClassBodies.{names_in, open_in, parents_in}
+use Rattle.tree_semantic.specs.declared.classes.ClassRow.{ClassRow}
+use Rattle.tree_semantic.proofs.ClassesTold.{row_read}
+use Rattle.tree_semantic.proofs.classes.Classes.parent.Goals as goal
+
+pub index-requires : goal.index-requires
+index-requires c =
+    let many : length (parents_in c.args.self.now) ≡ length c.args.self.now.rows.items = length-map c.args.self.now.rows.items (λ (r : ClassRow). option_map number_of r.parent) in
+    omega (arith, many, c.index-k.ensures.value, c.requires)
+
+pub returns : goal.returns
+returns c =
+    let many : length (parents_in c.args.self.now) ≡ length c.args.self.now.rows.items = length-map c.args.self.now.rows.items (λ (r : ClassRow). option_map number_of r.parent) in
+    let inside : c.index-k.result < length c.args.self.now.rows.items = omega (arith, many, c.index-k.ensures.value, c.requires) in
+    row_read (λ (r : ClassRow). option_map number_of r.parent) c.args.self.now.rows.items c.index-k.result (number_of c.args.id) _ None inside c.index.ensures c.index-k.ensures.value

@@ -1,0 +1,4 @@
+pub mod Nodes
+pub mod ClassBodies
+pub mod Renamed
+pub mod Semantics
