@@ -8,6 +8,8 @@ mod groups;
 #[cfg(test)]
 mod inputs;
 #[cfg(test)]
+mod made;
+#[cfg(test)]
 mod numbers;
 #[cfg(test)]
 mod trees;
