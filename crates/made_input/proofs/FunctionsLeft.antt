@@ -1,5 +1,5 @@
 -- The functions that are left to be written, one after the other.
-use Rattle.std.proofs.Common.{◌≡◌, ℕ, suc, ◌+◌, ◌-◌, ◌<◌, Bool, true, false, nat_lt, List, [], ◌++◌, sym, ap, ap₂, ◌∙◌, arith, append_assoc, append-nil, lt-ltb}
+use Rattle.std.proofs.Common.{◌≡◌, ℕ, suc, ◌+◌, ◌-◌, ◌<◌, Bool, true, nat_lt, List, ◌++◌, sym, ap, ap₂, ◌∙◌, arith, append_assoc, lt-ltb}
 use Rattle.made_input.specs.Pieces.{comma_if, function_text, functions_text}
 
 -- of so many from the k-th on the first, and the others
@@ -15,17 +15,10 @@ one_less count k h =
 regroup : (t c f r : List ℕ) → (t ++ (c ++ f)) ++ r ≡ t ++ (c ++ (f ++ r))
 regroup t c f r = simp append_assoc
 
-pub all_left : (t : List ℕ) (count : ℕ) → t ++ functions_text (nat_lt 0 0) 0 (count - 0) ≡ t ++ functions_text false 0 count
-all_left t count = let same : count - 0 ≡ count = omega arith in ap (λ (n : ℕ). t ++ functions_text false 0 n) same
-
-pub one_written : {t new all : List ℕ} (count k : ℕ) → k < count → t ++ functions_text (nat_lt 0 k) k (count - k) ≡ all
+-- what is left after one more
+pub one_written : (t new all : List ℕ) (count k : ℕ) → k < count → t ++ functions_text (nat_lt 0 k) k (count - k) ≡ all
     → new ≡ t ++ (comma_if (nat_lt 0 k) ++ function_text k) → new ++ functions_text (nat_lt 0 (k + 1)) (k + 1) (count - (k + 1)) ≡ all
-one_written {t} {new} {all} count k less before written =
+one_written t new all count k less before written =
     let rest : List ℕ = functions_text (nat_lt 0 (k + 1)) (k + 1) (count - (k + 1)) in
     ap (λ (x : List ℕ). x ++ rest) written ∙ regroup t (comma_if (nat_lt 0 k)) (function_text k) rest
     ∙ ap (λ (x : List ℕ). t ++ x) (sym (one_less count k less)) ∙ before
-
-pub none_left : {t all : List ℕ} (count k : ℕ) → k ≡ count → t ++ functions_text (nat_lt 0 k) k (count - k) ≡ all → t ≡ all
-none_left {t} count k same h =
-    let over : 0 ≡ count - k = omega (arith, same) in
-    sym (append-nil t) ∙ ap (λ (n : ℕ). t ++ functions_text (nat_lt 0 k) k n) over ∙ h

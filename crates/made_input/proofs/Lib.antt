@@ -6,6 +6,7 @@ pub mod MadeNames
 pub mod MadeValues
 pub mod MadePieces
 pub mod FunctionsLeft
+pub mod Pushed
 -- what is read from it
 pub mod MadeReading
 pub mod MadeShapes

@@ -3,7 +3,7 @@ use Rattle.std.proofs.Common.{◌≡◌, ℕ, zero, suc, ◌+◌, ◌≤◌, Boo
 use Rattle.std.specs.Str.{chars}
 use Rattle.json_text.specs.Json.{Json, Members, object, string}
 use Rattle.json_text.specs.Units.{units_of}
-use Rattle.serde_json.specs.Data as data
+use Rattle.serde_json.specs.Data as parsed
 use Rattle.serde_json.specs.Data.{Data}
 use Rattle.tree_core.proofs.AsciiTexts.{text_of_ascii}
 use Rattle.tree_core.specs.JsonOf.{items_of, json_of, members_of}
@@ -77,23 +77,23 @@ name_shape x h =
     (ap (λ (p : Option Parts). then_fields p no_fields) h)
 
 call_shape : (callee argument : Data) (t u : Tree) → shape_of (json_of callee) ≡ Some t → shape_of (json_of argument) ≡ Some u
-    → shape_of (json_of (data.object (call_entries callee argument))) ≡ Some (at_nought CallExpression (before t (many (alone u) (atom (flag false) done))))
+    → shape_of (json_of (parsed.object (call_entries callee argument))) ≡ Some (at_nought CallExpression (before t (many (alone u) (atom (flag false) done))))
 unfolding chars
 call_shape callee argument t u h i =
     node_shape CallExpression (members_of (call_entries callee argument)) (before t (many (alone u) (atom (flag false) done)))
     (record { ascii = refl; named = refl; starts = refl; ends = refl; distinct = refl; known = refl; paired = refl })
     (ap₂ (λ (a b : Option Tree). then_fields (option_map alone a) (then_fields (one_item b) (then_fields (Some (one (flag false))) no_fields))) h i)
 
-return_shape : (ms : data.Members) (t : Tree) → shape_of (json_of (data.object ms)) ≡ Some t
-    → shape_of (json_of (data.object (return_entries (data.object ms)))) ≡ Some (at_nought ReturnStatement (alone t))
+return_shape : (ms : parsed.Members) (t : Tree) → shape_of (json_of (parsed.object ms)) ≡ Some t
+    → shape_of (json_of (parsed.object (return_entries (parsed.object ms)))) ≡ Some (at_nought ReturnStatement (alone t))
 unfolding chars
 return_shape ms t h =
-    node_shape ReturnStatement (members_of (return_entries (data.object ms))) (alone t)
+    node_shape ReturnStatement (members_of (return_entries (parsed.object ms))) (alone t)
     (record { ascii = refl; named = refl; starts = refl; ends = refl; distinct = refl; known = refl; paired = refl })
     (ap (λ (a : Option Tree). then_fields (option_map alone a) no_fields) h)
 
 block_shape : (statement : Data) (t : Tree) → shape_of (json_of statement) ≡ Some t
-    → shape_of (json_of (data.object (block_entries statement))) ≡ Some (at_nought BlockStatement (many (alone t) done))
+    → shape_of (json_of (parsed.object (block_entries statement))) ≡ Some (at_nought BlockStatement (many (alone t) done))
 unfolding chars
 block_shape statement t h =
     node_shape BlockStatement (members_of (block_entries statement)) (many (alone t) done)
@@ -106,13 +106,13 @@ declaration_fields name parameter body =
     then_fields (option_map alone name) (then_fields (Some (one (flag false))) (then_fields (Some (one (flag false)))
     (then_fields (one_item parameter) (then_fields (option_map alone body) (then_fields (Some (one (flag false))) no_fields)))))
 
-declaration_shape : (ms : data.Members) (parameter body : Data) (t u v : Tree) → shape_of (json_of (data.object ms)) ≡ Some t
+declaration_shape : (ms : parsed.Members) (parameter body : Data) (t u v : Tree) → shape_of (json_of (parsed.object ms)) ≡ Some t
     → shape_of (json_of parameter) ≡ Some u → shape_of (json_of body) ≡ Some v
-    → shape_of (json_of (data.object (declaration_entries (data.object ms) parameter body)))
+    → shape_of (json_of (parsed.object (declaration_entries (parsed.object ms) parameter body)))
     ≡ Some (at_nought FunctionDeclaration (before t (atom (flag false) (atom (flag false) (many (alone u) (before v (atom (flag false) done)))))))
 unfolding chars
 declaration_shape ms parameter body t u v h i j =
-    node_shape FunctionDeclaration (members_of (declaration_entries (data.object ms) parameter body))
+    node_shape FunctionDeclaration (members_of (declaration_entries (parsed.object ms) parameter body))
     (before t (atom (flag false) (atom (flag false) (many (alone u) (before v (atom (flag false) done))))))
     (record { ascii = refl; named = refl; starts = refl; ends = refl; distinct = refl; known = refl; paired = refl })
     (ap₂ (λ (a b : Option Tree). declaration_fields a b (shape_of (json_of body))) h i ∙ ap (declaration_fields (Some t) (Some u)) j)
@@ -141,8 +141,8 @@ functions_shape k (suc n) h =
 
 -- ---- the program
 
-program_shape : (functions : data.Items) (ps : Parts) → items_from (items_of functions) false ≡ Some ps
-    → shape_of (json_of (data.object (program_data functions))) ≡ Some (at_nought Program (many ps (atom (word 1) (atom empty done))))
+program_shape : (functions : parsed.Items) (ps : Parts) → items_from (items_of functions) false ≡ Some ps
+    → shape_of (json_of (parsed.object (program_data functions))) ≡ Some (at_nought Program (many ps (atom (word 1) (atom empty done))))
 unfolding chars
 program_shape functions ps h =
     node_shape Program (members_of (program_data functions)) (many ps (atom (word 1) (atom empty done)))
@@ -164,7 +164,7 @@ placed : (n : ℕ) → is_placed (made_tree n) ≡ true
 unfolding all_open made_tree
 placed n = rw (functions_placed 0 n) refl
 
-pub text_is_tree : (n : ℕ) → n ≤ 2000 → tree_of (json_of (data.object (program_data (functions_data 0 n)))) ≡ Some (made_tree n)
+pub text_is_tree : (n : ℕ) → n ≤ 2000 → tree_of (json_of (parsed.object (program_data (functions_data 0 n)))) ≡ Some (made_tree n)
 unfolding tree_of made_tree
 text_is_tree n h =
     ap (option_and_then (λ (t : Tree). if is_placed t then Some t else None)) (program_shape (functions_data 0 n) (functions 0 n) (functions_shape 0 n (omega (arith, h))))

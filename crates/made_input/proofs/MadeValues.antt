@@ -1,6 +1,6 @@
 -- The value of the made tree, as this project prints it.
 use Rattle.std.proofs.Common.{◌≡◌, ℕ, zero, suc, ◌+◌, ◌≤◌, List, Bool, true, false, codes, refl, ap, ap₂, ◌∙◌, arith}
-use Rattle.json.specs.Json as json
+use Rattle.std.specs.Str.{chars}
 use Rattle.json.specs.Tree.{depth, items_depth}
 use Rattle.json_text.proofs.Units.{units_of-IsAscii}
 use Rattle.json_text.specs.Json.{Json, null, truth, string, list, Items, no_items, item, Members, no_members, member}
@@ -54,6 +54,7 @@ program_value functions = node_value Program 0 0 (program_members functions)
 -- ---- the value of the made tree is this
 
 function_values_told : (k n : ℕ) → k + n ≤ 2000 → items_value (functions k n) ≡ function_values k n
+unfolding chars
 function_values_told k zero h = refl
 function_values_told k (suc n) h =
     ap₂ item (ap function_value (units_of-IsAscii (function_name k) (IsAscii-plain (function_name k) (name_plain k (omega (arith, h))))))

@@ -81,7 +81,7 @@ unfolding is_undeclared
 none_undeclared ps p a = rw a.not_private refl
 
 none_reaches : (bs : List (Bound Text)) (b : Bound Text) → IsQuiet b.place.site → reaches_body bs b ≡ false
-unfolding reaches_body
+unfolding reaches_body refers
 none_reaches bs b a = go a.outside b.binding
   where
     go : (refers b.place.site ≡ false) ⊎ (b.place.site.setting.heads ≡ []) → (o : Option ℕ)

@@ -53,10 +53,18 @@ fn push_function(text: &mut String, k: u32) -> Result<(), AllocError>
 {
     let mut buffer = itoa::Buffer::new();
     let digits = buffer.format(k);
-    text.push_str(if k > 0 { "," } else { "" })?;
+    text.push_str(comma_before(k))?;
     text.push_str(BEFORE_NAME)?;
     text.push_str(digits)?;
     text.push_str(BETWEEN_NAMES)?;
     text.push_str(digits)?;
-    text.push_str(AFTER_NAMES)
+    text.push_str(AFTER_NAMES)?;
+    Ok(())
+}
+
+// A comma, but for the first function.
+fn comma_before(k: u32) -> &'static str
+    ensures { result.now ≡ comma_if (nat_lt 0 k) }
+{
+    if k > 0 { "," } else { "" }
 }
