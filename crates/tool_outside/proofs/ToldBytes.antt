@@ -29,3 +29,8 @@ pub nothing_is_left : (a b : Option (List ℕ)) (n : ℕ) → IfSome a (LosesFro
 nothing_is_left None b n p e = tt
 nothing_is_left (Some xs) None n p e = cc
 nothing_is_left (Some xs) (Some ys) n p e = ap Some e
+
+-- where no byte was given none is lost
+pub nothing_lost : (a : Option (List ℕ)) (n : ℕ) → IfSome a (LosesFront a (n - n))
+nothing_lost None n = tt
+nothing_lost (Some xs) n = let none : n - n ≡ 0 = omega arith in (omega arith, ap Some (sym (ap (λ k. drop k xs) none)))
