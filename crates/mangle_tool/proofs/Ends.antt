@@ -87,7 +87,7 @@ same_value : (input : List ℕ) (d e : Data) → Parses input d → Parses input
 same_value input d e p q = some_one d e (sym p.1 ∙ q.1)
 
 -- what a refusal says of a valid input can't be
-valid_refused : (reserved : ℕ) (input : List ℕ) (e : MangleError) → IsValidInput reserved input → IsCauseOf reserved e input → refused_status e ≡ status.Memory
+pub valid_refused : (reserved : ℕ) (input : List ℕ) (e : MangleError) → IsValidInput reserved input → IsCauseOf reserved e input → refused_status e ≡ status.Memory
 valid_refused reserved input NotJson v cause = absurd (none_some v.value (sym (cause v.parses.0) ∙ v.parses.1))
 valid_refused reserved input TooLarge v cause =
     absurd (true≢false (sym cause.cause ∙ ap (λ (d : Data). is_too_large d reserved) (same_value input cause.value v.value cause.parses v.parses) ∙ v.valid.within))

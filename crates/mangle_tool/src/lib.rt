@@ -9,6 +9,7 @@ mod mangle;
 pub mod run;
 pub mod status;
 
+pub use mangle::mangle_program;
 pub use tool_outside::adapters;
 pub use tool_outside::memory;
 pub use tool_outside::read_all;

@@ -17,9 +17,12 @@ use serde_json::{Map, Value};
 use std::alloc::Global;
 use tree_core::{Program, ReadError, is_too_large, read_tree};
 
-// The program in these bytes, where so many names are reserved. The JSON value is let go here, so that
-// it and what becomes of the program are never held together.
-pub(crate) fn program_of(
+/// The program in these bytes, where so many names are reserved.
+///
+/// `NotJson`, `TooLarge` and `BadTree` come as `mangle_estree` has them, `BadScope` never.
+//
+// The JSON value is let go here, so that it and what becomes of the program are never held together.
+pub fn program_of(
     alloc: Global,
     input: &[u8],
     reserved: usize,

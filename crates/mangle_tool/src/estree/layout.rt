@@ -11,8 +11,8 @@ use std::alloc::{AllocError, Global};
 use tool_words::Layout;
 use tree_core::Program;
 
-// The text of a program's tree and of the paths to its literals. Err is want of memory.
-pub(crate) fn text_in(
+/// The text of a program's tree and of the paths to its literals. Err is want of memory.
+pub fn text_in(
     alloc: Global,
     program: &Program,
     layout: Layout,
