@@ -3,8 +3,7 @@ use Rattle.std.specs.Prelude.{◌≡◌, ℕ, ◌+◌, List, [], Some, length, I
 use Rattle.std.specs.declared.option.Option.{Option}
 use Rattle.std.specs.Io.KnownBytes.{Appends, IsAtEnd}
 use Rattle.tool_outside.specs.Sink.{AppendsPrefix}
-use Rattle.tool_outside.specs.declared.read_all.ReadAllError.{ReadAllError}
-use Rattle.tool_outside.specs.declared.read_all.ReadAllError.TheVariants.{Failed, TooLong, Memory}
+use Rattle.tool_outside.specs.declared.read_all.ReadAllError.TheVariants.{Memory}
 use Rattle.tool_outside.specs.declared.work.Outcome.{Outcome}
 use Rattle.tool_outside.specs.declared.work.Outcome.TheVariants.{Done, Unread, Refused, Unwritten}
 

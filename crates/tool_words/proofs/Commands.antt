@@ -4,7 +4,7 @@ use Rattle.std.proofs.lemmas.Bool.Decides.{nat_tests}
 use Rattle.mangle_options.specs.declared.options.MangleOptions.{MangleOptions}
 use Rattle.tree_nodes.specs.Tree.{Text}
 use Rattle.tool_words.specs.MadeNumber.{made_number}
-use Rattle.tool_words.specs.Words.{AreAsked, AsksMangling, Settings, Task, command_of, makes, making, mangling, second, settings_of}
+use Rattle.tool_words.specs.Words.{AreAsked, AsksMangling, command_of, makes, making, mangling, second, settings_of}
 use Rattle.tool_words.specs.declared.command.Layout.{Layout}
 
 -- ---- two words, the first `--make`

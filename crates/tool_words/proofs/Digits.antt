@@ -1,5 +1,5 @@
 -- Numbers that are read digit by digit.
-use Rattle.std.proofs.Common.{◌≡◌, ◌≤◌, ◌<◌, ◌+◌, ◌-◌, ◌*◌, ℕ, zero, suc, Bool, true, false, not, ◌&&◌, List, [], ◌∷◌, Option, Some, None, option_and_then, nat_eq, nat_le, length, get_or, drop, ap, ◌∙◌, arith}
+use Rattle.std.proofs.Common.{◌≡◌, ◌≤◌, ◌<◌, ◌+◌, ◌-◌, ◌*◌, ℕ, zero, suc, true, ◌&&◌, List, [], ◌∷◌, Some, None, option_and_then, nat_le, length, get_or, drop, ap, ◌∙◌, arith}
 use Rattle.std.proofs.lemmas.Bool.Decides.{nat_tests}
 use Rattle.std.proofs.lemmas.List.{drop_more}
 use Rattle.std.proofs.Math.ListN.{drop_of_length-le}
@@ -24,10 +24,19 @@ digit_more n d m e =
     }
 
 -- the first digit is no zero, so the number isn't either
-pub first_some : (xs : List ℕ) (m : ℕ) → begins xs ≡ true → with_digit 0 (get_or xs 0 0) ≡ Some m → 1 ≤ m
+first_some : (xs : List ℕ) (n m : ℕ) → begins xs ≡ true → with_digit n (get_or xs 0 0) ≡ Some m → 1 ≤ m
 unfolding begins
-first_some [] m b e = absurd (cc)
-first_some (d ∷ ds) m b e = let more = digit_more 0 d m e in grind (arith, nat_tests, b, more.digit, more.is)
+first_some [] n m b e = absurd (cc)
+first_some (d ∷ ds) n m b e = let more = digit_more n d m e in grind (arith, nat_tests, b, more.digit, more.is)
+
+pub some_more : (xs : List ℕ) (i n m : ℕ) → begins xs ≡ true → (0 < i → 1 ≤ n) → with_digit n (get_or xs i 0) ≡ Some m → 1 ≤ m
+some_more xs zero n m b h e = first_some xs n m b e
+some_more xs (suc i) n m b h e = let more = digit_more n (get_or xs (suc i) 0) m e in let some : 1 ≤ n = h (omega arith) in omega (arith, more.is, some)
+
+pub begins_long : (xs : List ℕ) → begins xs ≡ true → 1 ≤ length xs
+unfolding begins
+begins_long [] b = absurd (cc)
+begins_long (d ∷ ds) b = omega arith
 
 pub digit_read : (xs : List ℕ) (i n m : ℕ) → i < length xs → number_from 0 xs ≡ number_from n (drop i xs) → with_digit n (get_or xs i 0) ≡ Some m → number_from 0 xs ≡ number_from m (drop (i + 1) xs)
 unfolding number_from

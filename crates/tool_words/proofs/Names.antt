@@ -30,7 +30,6 @@ module _ (x : Text) (old new listed : List Text) (a : AreListed old listed) (p :
   unfolding is_among same_name
   listed_first y = p.same y ∙ either_way (bytes_eq x y) (bytes_eq y x) (is_among old y) (is_among listed y) (same_flips x y) (a.same y)
 
-
   listed_by : (t : Bool) → is_among listed x ≡ t → AreListed new (if t then listed else x ∷ listed)
   listed_by true e = record {
     same = listed_again e;

@@ -1,5 +1,5 @@
 -- A decimal number from 1 to 2,000, as a word has it.
-use Rattle.std.specs.Prelude.{ℕ, ◌+◌, ◌-◌, ◌*◌, Bool, true, false, not, ◌&&◌, List, [], ◌∷◌, nat_eq, nat_le, Option, Some, None, option_and_then, if◌then◌else◌}
+use Rattle.std.specs.Prelude.{ℕ, ◌+◌, ◌-◌, ◌*◌, Bool, false, not, ◌&&◌, List, [], ◌∷◌, nat_eq, nat_le, Option, Some, None, option_and_then, if◌then◌else◌}
 
 -- the number followed by a digit, if that is at most 2,000
 unfoldable pub with_digit : ℕ → ℕ → Option ℕ

@@ -1,7 +1,5 @@
 //! What words ask for.
 
-ghost use Rattle.std.specs.Prelude.{◌≡◌};
-
 use mangle_options::MangleOptions;
 use std::alloc::AllocError;
 
@@ -34,6 +32,9 @@ pub enum WordError {
 }
 
 impl From<AllocError> for WordError {
+    ghost use Rattle.std.specs.Prelude.{◌≡◌};
+    ghost use Rattle.tool_words.specs.declared.command.WordError.{WordError};
+
     ghost from_gives = { λ _ e. e ≡ WordError.Memory };
 
     fn from(_error: AllocError) -> Self {

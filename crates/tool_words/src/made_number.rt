@@ -1,9 +1,10 @@
 //! The number of functions that a made input is to have.
 
-ghost use Rattle.std.specs.Prelude.{◌≡◌, ◌≤◌, IfSome};
+ghost use Rattle.std.specs.Prelude.{◌≡◌, ◌≤◌, IfSome, true};
 ghost use Rattle.tool_words.specs.MadeNumber as spec;
 
 // The number that a word is, from 1 to 2,000, without a leading zero.
+#[tactic(auto, unfolding(crate::specs::MadeNumber::begins, crate::specs::MadeNumber::made_number))]
 pub(crate) fn made_number(word: &str) -> Option<u32>
     ensures number { result ≡ spec.made_number word.now }
     ensures range { IfSome result (λ n. (1 ≤ n) × (n ≤ 2000)) }
@@ -29,6 +30,7 @@ fn number_of(digits: &[u8]) -> Option<u32>
 }
 
 // The number followed by a digit, if that is at most 2,000.
+#[tactic(auto, using(std::proofs::lemmas::Bool::Decides::nat_tests), unfolding(crate::specs::MadeNumber::with_digit))]
 fn with_digit(number: u32, digit: u8) -> Option<u32>
     requires { number ≤ 2000 }
     ensures { result ≡ spec.with_digit number digit }

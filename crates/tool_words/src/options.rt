@@ -79,11 +79,7 @@ fn take_word(
 }
 
 // Puts a copy of the name into the set. Err is want of memory.
-fn put(
-    alloc: Global,
-    names: &mut HashSet<CompactStr>,
-    name: &CompactStr,
-) -> Result<(), AllocError>
+fn put(alloc: Global, names: &mut HashSet<CompactStr>, name: &CompactStr) -> Result<(), AllocError>
     ensures { OnOk result (HasPut name.now names.old.keys names.new.keys) }
 {
     names.insert(name.try_clone(alloc)?)?;
