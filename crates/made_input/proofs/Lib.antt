@@ -2,9 +2,11 @@
 pub mod PlainTexts
 pub mod PlainReading
 -- the made text in its pieces, and as a value
+pub mod MadeNames
 pub mod MadeValues
 pub mod MadePieces
-pub mod MadeNames
+pub mod FunctionsLeft
+pub mod Pushed
 -- what is read from it
 pub mod MadeReading
 pub mod MadeShapes

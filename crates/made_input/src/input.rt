@@ -41,23 +41,30 @@ fn push_functions(text: &mut String, count: u32) -> Result<(), AllocError>
         ≡ string_bytes text.old ++ functions_text false 0 count) }
 {
     for k in 0..count {
-        if k > 0 {
-            text.push_str(",")?;
-        }
         push_function(text, k)?;
     }
     Ok(())
 }
 
-// Appends the k-th function.
+// Appends the k-th function, after a comma where it isn't the first.
 fn push_function(text: &mut String, k: u32) -> Result<(), AllocError>
-    ensures { OnOk result (string_bytes text.new ≡ string_bytes text.old ++ function_text k) }
+    ensures { OnOk result (string_bytes text.new
+        ≡ string_bytes text.old ++ (comma_if (nat_lt 0 k) ++ function_text k)) }
 {
     let mut buffer = itoa::Buffer::new();
     let digits = buffer.format(k);
+    text.push_str(comma_before(k))?;
     text.push_str(BEFORE_NAME)?;
     text.push_str(digits)?;
     text.push_str(BETWEEN_NAMES)?;
     text.push_str(digits)?;
-    text.push_str(AFTER_NAMES)
+    text.push_str(AFTER_NAMES)?;
+    Ok(())
+}
+
+// A comma, but for the first function.
+fn comma_before(k: u32) -> &'static str
+    ensures { result.now ≡ comma_if (nat_lt 0 k) }
+{
+    if k > 0 { "," } else { "" }
 }
