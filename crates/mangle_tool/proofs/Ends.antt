@@ -58,28 +58,9 @@ pub ended_unwritten : (o : Outcome MangleError) → ended o ≡ status.WriteFaul
 unfolding from_status
 ended_unwritten o h = ended_by o status.WriteFault h (λ m. cc)
 
-pub ended_failed : (o : Outcome MangleError) → ended o ≡ status.ReadFault → o ≡ Unread read.Failed
-unfolding from_status
-ended_failed o h = ended_by o status.ReadFault h (λ m. cc)
-
 pub ended_too_long : (o : Outcome MangleError) → ended o ≡ status.InputTooLong → o ≡ Unread read.TooLong
 unfolding from_status
 ended_too_long o h = ended_by o status.InputTooLong h (λ m. cc)
-
-pub ended_argument : (o : Outcome MangleError) → ended o ≢ status.BadArgument
-unfolding from_status
-ended_argument o h = let last : o ≡ Unwritten = ended_by o status.BadArgument h (λ m. cc) in let e : status.BadArgument ≡ status.WriteFault = sym h ∙ ap ended last in cc
-
-refusal_back : (e : MangleError) → from_status (refused_status e) ≡ Refused e
-unfolding from_status
-refusal_back NotJson = refl
-refusal_back TooLarge = refl
-refusal_back BadTree = refl
-refusal_back BadScope = refl
-refusal_back Memory = refl
-
-pub ended_refused : (o : Outcome MangleError) (e : MangleError) → ended o ≡ refused_status e → ended o ≢ status.Memory → o ≡ Refused e
-ended_refused o e h n = ended_by o (refused_status e) h (λ m. n (h ∙ m)) ∙ refusal_back e
 
 -- ---- a valid input is refused for want of memory alone
 
@@ -97,15 +78,6 @@ valid_refused reserved input BadScope v cause =
     let same : cause.cause.tree ≡ v.valid.tree = some_one cause.cause.tree v.valid.tree (sym cause.cause.is_tree ∙ ap tree_in (same_value input cause.value v.value cause.parses v.parses) ∙ v.valid.is_tree) in
     absurd (true≢false (sym cause.cause.faulty ∙ ap (λ (t : Tree). has_fault same_name (places (alone t))) same ∙ v.valid.sound))
 valid_refused reserved input Memory v cause = refl
-
-pub valid_ends : (reserved : ℕ) (input : List ℕ) (o : Outcome MangleError) → IsValidInput reserved input → EndsUnlessRefused (λ e. IsCauseOf reserved e input) o
-    → (ended o ≡ status.Done) ⊎ (ended o ≡ status.Memory)
-valid_ends reserved input Done v u = inl refl
-valid_ends reserved input (Unread read.Failed) v u = absurd u
-valid_ends reserved input (Unread read.TooLong) v u = absurd u
-valid_ends reserved input (Unread read.Memory) v u = inr refl
-valid_ends reserved input (Refused e) v cause = inr (valid_refused reserved input e v cause)
-valid_ends reserved input Unwritten v u = absurd u
 
 pub made_ends : (input : List ℕ) (o : Outcome MangleError) → IsValidInput 0 input → ((e : MangleError) → o ≡ Refused e → IsCauseOf 0 e input)
     → ((e : ReadAllError) → o ≢ Unread e) → o ≢ Unwritten → (ended o ≡ status.Done) ⊎ (ended o ≡ status.Memory)

@@ -7,4 +7,5 @@ pub mod ShortTexts
 pub mod Answers
 -- by options, words and ends
 pub mod Settings
+pub mod MadeInputs
 pub mod Ends

@@ -49,19 +49,3 @@ module _ (t : Option Task) (o : MangleOptions) (l : Layout) (asks : AsksMangling
     read = a.read;
     answer = record { text = a.answer.text; is_text = answer_by asks.settings o l asks.has a.input a.answer.text a.answer.is_text; written = a.answer.written };
   })
-
-  pub refused_by : (e : MangleError) → HasRefused (IsCauseOf (length (reserved_in o)) e) left_old left_new given_old given_new → WasRefused t left_old left_new given_old given_new e
-  refused_by e r = subst (λ (u : Option Task). WasRefused u left_old left_new given_old given_new e) (sym asks.asked_for) (record {
-    input = r.input;
-    read = r.read;
-    cause = subst (λ (n : ℕ). IsCauseOf n e r.input) asks.has.reserved.many r.cause;
-  })
-
--- the bytes that are told are valid, with as many reserved names
-pub valid_by : (t : Option Task) (o : MangleOptions) (l : Layout) (asks : AsksMangling t o l) (left : Option (List ℕ)) → IsAnswerable t left
-    → (bytes : List ℕ) × (left ≡ Some bytes) × (length bytes ≤ INPUT_LIMIT) × IsValidInput (length (reserved_in o)) bytes
-valid_by t o l asks left can = go left (subst (λ (u : Option Task). IsAnswerable u left) asks.asked_for can)
-  where
-    go : (left : Option (List ℕ)) → IsAnswerable (Some (mangling asks.settings)) left → (bytes : List ℕ) × (left ≡ Some bytes) × (length bytes ≤ INPUT_LIMIT) × IsValidInput (length (reserved_in o)) bytes
-    go None can = absurd can
-    go (Some bytes) can = (bytes, refl, can.0, subst (λ (n : ℕ). IsValidInput n bytes) (sym asks.has.reserved.many) can.1)

@@ -53,11 +53,11 @@ IsAnswerable (Some (mangling s)) None = ⊥
 IsAnswerable (Some (making n)) left = ⊥
 IsAnswerable None left = ⊥
 
--- the made input is valid
-abbrev pub IsMakeable : Option Task → Type 0
-IsMakeable (Some (mangling s)) = ⊥
-IsMakeable (Some (making n)) = IsValidInput 0 (made_text n)
-IsMakeable None = ⊥
+-- a made input is asked for
+abbrev pub IsMaking : Option Task → Type 0
+IsMaking (Some (mangling s)) = ⊥
+IsMaking (Some (making n)) = Unit {0}
+IsMaking None = ⊥
 
 -- how a run ends by the end of its work
 abbrev pub ended : Outcome MangleError → Status

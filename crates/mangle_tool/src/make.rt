@@ -3,7 +3,7 @@
 ghost use Rattle.std.specs.Prelude.{◌≡◌, ◌≢◌, ◌<◌, ◌≤◌, ◌⊎◌, IfErr, IfOk, IsTrue, string_bytes};
 ghost use Rattle.made_input.specs.Made.{made_text};
 ghost use Rattle.mangle_tool.specs.declared.estree.error.MangleError.{MangleError};
-ghost use Rattle.mangle_tool.specs.Answer.{IsAnswer, IsCauseOf, IsValidInput, refused_status};
+ghost use Rattle.mangle_tool.specs.Answer.{IsAnswer, IsCauseOf, refused_status};
 ghost use Rattle.mangle_tool.specs.Asked.{usual};
 ghost use Rattle.mangle_tool.specs.Make as spec;
 ghost use Rattle.mangle_tool.specs.Make.{HasLengths};
@@ -14,12 +14,11 @@ use crate::answering::Making;
 use crate::estree::{Layout, MangleError, MangleOptions, mangle_estree};
 use crate::sink::Sink;
 use crate::status::Status;
-use made_input::make_input;
+use made_input::{make_input, made_texts_are_read};
 use std::alloc::{AllocError, Global};
 use tool_outside::carry_out::answer_into;
 
 // Mangles a made input of so many functions, and writes a line on both lengths.
-#[tactic(auto, using(crate::proofs::Ends::ended_done))]
 pub(crate) fn make<K: Sink>(alloc: Global, functions: u32, sink: &mut K) -> Status
     requires some { 1 ≤ functions }
     requires most { functions ≤ 2000 }
@@ -37,8 +36,9 @@ pub(crate) fn make<K: Sink>(alloc: Global, functions: u32, sink: &mut K) -> Stat
     ensures write_fault { result ≡ Status.WriteFault → Rose (K.faults sink.old) (K.faults sink.new) }
     ensures write_fault_told { K.faults sink.old < K.faults sink.new → result ≡ Status.WriteFault }
     ensures complete { ¬ Rose (K.faults sink.old) (K.faults sink.new)
-        → IsValidInput 0 (made_text functions) → (result ≡ Status.Done) ⊎ (result ≡ Status.Memory) }
+        → (result ≡ Status.Done) ⊎ (result ≡ Status.Memory) }
 {
+    made_texts_are_read();
     let input = match make_input(alloc, functions) {
         Ok(input) => input,
         Err(_) => return Status::Memory,

@@ -3,7 +3,7 @@
 ghost use Rattle.std.specs.Prelude.{◌≡◌, ◌≢◌, ◌+◌, ◌-◌, ◌<◌, ◌≤◌, ◌↔◌, ◌⊎◌, None, false, length, true, IfSome, IsTrue};
 ghost use Rattle.mangle_tool.specs.declared.estree.error.MangleError.{MangleError};
 ghost use Rattle.mangle_tool.specs.Answer.{refused_status};
-ghost use Rattle.mangle_tool.specs.Run.{HasBegunTo, HasDone, IsAnswerable, IsMakeable, WasRefused, reads};
+ghost use Rattle.mangle_tool.specs.Run.{HasBegunTo, HasDone, IsAnswerable, IsMaking, WasRefused, reads};
 ghost use Rattle.tool_outside.specs.declared.carry_out.TheConstants.{INPUT_LIMIT};
 ghost use Rattle.tool_outside.specs.Failures.{Rose};
 ghost use Rattle.tool_outside.specs.Source.{LosesFront};
@@ -75,13 +75,14 @@ pub fn run<S: Source, K: Sink>(
     ensures rest { IfSome (S.left source.old)
         (LosesFront (S.left source.new) (S.given source.new - S.given source.old)) }
 
-    // Where nothing fails, a valid input is answered, and so is a made one.
+    // Where nothing fails, a valid input is answered, and so is each made one.
     ensures complete { ¬ Rose (S.faults source.old) (S.faults source.new)
         → ¬ Rose (K.faults sink.old) (K.faults sink.new)
         → IsAnswerable (command_of words.now) (S.left source.old)
         → (result ≡ Status.Done) ⊎ (result ≡ Status.Memory) }
     ensures complete_made { ¬ Rose (K.faults sink.old) (K.faults sink.new)
-        → IsMakeable (command_of words.now) → (result ≡ Status.Done) ⊎ (result ≡ Status.Memory) }
+        → IsMaking (command_of words.now)
+        → (result ≡ Status.Done) ⊎ (result ≡ Status.Memory) }
 {
     let command = match read_words(alloc, words) {
         Ok(command) => command,

@@ -9,7 +9,7 @@ use Rattle.mangle_tool.specs.declared.estree.error.MangleError.{MangleError}
 use Rattle.tool_commands.specs.Command.{AsksMapping, IsToolAnswer, IsToolCause, IsWorkAsked, ToolTask, asked_by_word, command_word, mapping, plain, restoring, tool_command_of, work_of}
 use Rattle.tool_commands.specs.Map.{IsMapAnswer, IsMapBy}
 use Rattle.tool_commands.specs.Restore.{IsRestorable}
-use Rattle.tool_commands.specs.Tool.{HasBegunTo, HasDone, IsAnswerable, IsMakeable, IsMapCause, WasRefused, reads}
+use Rattle.tool_commands.specs.Tool.{HasBegunTo, HasDone, IsAnswerable, IsMaking, IsMapCause, WasRefused, reads}
 use Rattle.tool_commands.specs.declared.command.CommandWord.{CommandWord}
 use Rattle.tool_commands.specs.declared.command.ToolWork.{ToolWork}
 use Rattle.tool_commands.specs.declared.command.ToolWork.TheVariants.{Map, Restore}
@@ -106,9 +106,9 @@ pub work_told : (t : Option ToolTask) (w : ToolWork) → IsWorkAsked t w → (le
 work_told t (Map o) asks left can = map_told asks.settings o asks.has.reserved.many left (subst (λ (u : Option ToolTask). IsAnswerable u left) asks.asked_for can)
 work_told t Restore asks left can = restore_told left (subst (λ (u : Option ToolTask). IsAnswerable u left) asks can)
 
-pub work_not_made : (t : Option ToolTask) (w : ToolWork) → IsWorkAsked t w → ¬ IsMakeable t
-work_not_made t (Map o) asks can = subst IsMakeable asks.asked_for can
-work_not_made t Restore asks can = subst IsMakeable asks can
+pub work_not_made : (t : Option ToolTask) (w : ToolWork) → IsWorkAsked t w → ¬ IsMaking t
+work_not_made t (Map o) asks can = subst IsMaking asks.asked_for can
+work_not_made t Restore asks can = subst IsMaking asks can
 
 -- ---- a run
 
@@ -135,7 +135,7 @@ pub plain_answerable : (t : Option Task) (left : Option (List ℕ)) → IsAnswer
 plain_answerable None left a = a
 plain_answerable (Some x) left a = a
 
-pub plain_makeable : (t : Option Task) → IsMakeable (option_map plain t) → run.IsMakeable t
+pub plain_makeable : (t : Option Task) → IsMaking (option_map plain t) → run.IsMaking t
 plain_makeable None a = a
 plain_makeable (Some x) a = a
 

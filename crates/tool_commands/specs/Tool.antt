@@ -55,9 +55,9 @@ IsAnswerable (Some restoring) (Some left) = (length left ≤ INPUT_LIMIT) × IsR
 IsAnswerable (Some restoring) None = ⊥
 IsAnswerable None left = ⊥
 
--- the made input is valid
-abbrev pub IsMakeable : Option ToolTask → Type 0
-IsMakeable (Some (plain t)) = run.IsMakeable (Some t)
-IsMakeable (Some (mapping s)) = ⊥
-IsMakeable (Some restoring) = ⊥
-IsMakeable None = ⊥
+-- a made input is asked for
+abbrev pub IsMaking : Option ToolTask → Type 0
+IsMaking (Some (plain t)) = run.IsMaking (Some t)
+IsMaking (Some (mapping s)) = ⊥
+IsMaking (Some restoring) = ⊥
+IsMaking None = ⊥

@@ -3,7 +3,7 @@
 ghost use Rattle.std.specs.Prelude.{◌≡◌, ◌≢◌, ◌+◌, ◌-◌, ◌<◌, ◌≤◌, ◌↔◌, ◌⊎◌, None, false, length, true, IfSome, IsTrue};
 ghost use Rattle.tool_commands.specs.Command.{tool_command_of};
 ghost use Rattle.tool_commands.specs.Status.{refused_status};
-ghost use Rattle.tool_commands.specs.Tool.{HasBegunTo, HasDone, IsAnswerable, IsMakeable, WasRefused, reads};
+ghost use Rattle.tool_commands.specs.Tool.{HasBegunTo, HasDone, IsAnswerable, IsMaking, WasRefused, reads};
 ghost use Rattle.tool_commands.specs.declared.refusal.Refusal.{Refusal};
 ghost use Rattle.tool_commands.specs.declared.tool_status.ToolStatus.TheVariants.{Base};
 ghost use Rattle.tool_outside.specs.declared.carry_out.TheConstants.{INPUT_LIMIT};
@@ -79,7 +79,7 @@ pub fn run_tool<S: Source, K: Sink>(
         → IsAnswerable (tool_command_of words.now) (S.left source.old)
         → (result ≡ Base Status.Done) ⊎ (result ≡ Base Status.Memory) }
     ensures complete_made { ¬ Rose (K.faults sink.old) (K.faults sink.new)
-        → IsMakeable (tool_command_of words.now)
+        → IsMaking (tool_command_of words.now)
         → (result ≡ Base Status.Done) ⊎ (result ≡ Base Status.Memory) }
 {
     let work = match read_tool_words(alloc, words) {
