@@ -15,7 +15,6 @@ use Rattle.mangle_tool.specs.declared.estree.error.MangleError.{MangleError}
 use Rattle.mangle_tool.specs.declared.estree.error.MangleError.TheVariants.{NotJson, TooLarge, BadTree, BadScope, Memory}
 use Rattle.mangle_tool.specs.declared.status.Status.{Status}
 use Rattle.mangle_tool.specs.declared.status.Status.TheVariants as status
-use Rattle.tool_outside.specs.Outside.{EndsUnlessRefused}
 use Rattle.tool_outside.specs.declared.read_all.ReadAllError.{ReadAllError}
 use Rattle.tool_outside.specs.declared.read_all.ReadAllError.TheVariants as read
 use Rattle.tool_outside.specs.declared.work.Outcome.{Outcome}

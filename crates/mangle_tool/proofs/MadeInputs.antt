@@ -1,5 +1,5 @@
 -- A made text is a valid input.
-use Rattle.std.proofs.Common.{◌≡◌, ◌≤◌, ◌&&◌, ℕ, Bool, false, List, Option, Some, None, nat_eq, codes, is_some, option_and_then, unwrap_or, if◌then◌else◌, ap, ◌∙◌}
+use Rattle.std.proofs.Common.{◌≡◌, ◌&&◌, ℕ, List, None, nat_eq, codes, is_some, option_and_then, unwrap_or, if◌then◌else◌, ap, ◌∙◌}
 use Rattle.made_input.specs.Laws.{IsTextOf}
 use Rattle.mangle_tool.specs.Answer.{IsValidInput}
 use Rattle.mangle_tool.specs.Input.{program_in}

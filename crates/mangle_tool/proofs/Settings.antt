@@ -1,17 +1,14 @@
 -- Options and layouts that words ask for.
-use Rattle.std.proofs.Common.{◌≡◌, ◌≤◌, ℕ, false, List, [], None, Some, length, refl, sym, ap, ap₂, ◌∙◌, subst, Option}
+use Rattle.std.proofs.Common.{◌≡◌, ℕ, false, List, [], None, refl, sym, ap, ap₂, ◌∙◌, subst, Option}
 use Rattle.mangle_options.specs.Settings.{options_in, reserved_in}
 use Rattle.mangle_options.specs.declared.options.MangleOptions.{MangleOptions}
-use Rattle.mangle_tool.specs.Answer.{IsAnswer, IsCauseOf, IsValidInput}
+use Rattle.mangle_tool.specs.Answer.{IsAnswer}
 use Rattle.mangle_tool.specs.Asked.{Asked, asked_by, asked_for, usual}
-use Rattle.mangle_tool.specs.Run.{HasBegunTo, HasDone, IsAnswerBy, IsAnswerable, WasRefused}
-use Rattle.mangle_tool.specs.declared.estree.error.MangleError.{MangleError}
-use Rattle.tool_outside.specs.declared.carry_out.TheConstants.{INPUT_LIMIT}
-use Rattle.tool_outside.specs.Outside.{HasAnswered, HasBegun, HasBegunAnswer, HasRefused, HasWritten}
-use Rattle.tool_words.specs.Words.{AsksMangling, Flags, HasSettings, Settings, Task, flags_in, mangling, no_settings}
+use Rattle.mangle_tool.specs.Run.{HasBegunTo, HasDone, IsAnswerBy}
+use Rattle.tool_outside.specs.Outside.{HasAnswered, HasBegunAnswer}
+use Rattle.tool_words.specs.Words.{AsksMangling, Flags, HasSettings, Settings, Task, flags_in, no_settings}
 use Rattle.tool_words.specs.declared.command.Layout.{Layout}
 use Rattle.tool_words.specs.declared.command.Layout.TheVariants.{Compact}
-use Rattle.tree_nodes.specs.Tree.{Text}
 
 -- options ask what their settings do
 asked_by_settings : (o : MangleOptions) (l : Layout) → asked_by o l ≡ asked_for (flags_in o l) (reserved_in o)

@@ -1,5 +1,5 @@
 -- What a run read and wrote, by what its words ask for.
-use Rattle.std.specs.Prelude.{◌≡◌, ℕ, ◌≤◌, Bool, true, false, List, Some, None, length}
+use Rattle.std.specs.Prelude.{ℕ, ◌≤◌, Bool, true, false, List, Some, None, length}
 use Rattle.std.specs.declared.option.Option.{Option}
 use Rattle.made_input.specs.Made.{made_text}
 use Rattle.mangle_tool.specs.Answer.{IsAnswer, IsCauseOf, IsValidInput, refused_status}

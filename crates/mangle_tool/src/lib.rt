@@ -10,10 +10,5 @@ pub mod run;
 pub mod status;
 
 pub use mangle::mangle_program;
-pub use tool_outside::adapters;
-pub use tool_outside::memory;
-pub use tool_outside::read_all;
-pub use tool_outside::sink;
-pub use tool_outside::source;
-pub use tool_outside::write_whole;
+pub use tool_outside::{adapters, memory, read_all, sink, source, write_whole};
 pub use tool_words as words;

@@ -14,7 +14,7 @@ use crate::answering::Making;
 use crate::estree::{Layout, MangleError, MangleOptions, mangle_estree};
 use crate::sink::Sink;
 use crate::status::Status;
-use made_input::{make_input, made_texts_are_read};
+use made_input::{made_texts_are_read, make_input};
 use std::alloc::{AllocError, Global};
 use tool_outside::carry_out::answer_into;
 

@@ -16,10 +16,9 @@ use crate::sink::Sink;
 use crate::source::Source;
 use crate::status::Status;
 use std::alloc::Global;
+pub use tool_outside::carry_out::INPUT_LIMIT;
 use tool_outside::carry_out::carry_out;
 use tool_words::{Command, read_words};
-
-pub use tool_outside::carry_out::INPUT_LIMIT;
 
 /// Does what the words of a command line ask for: reads an ESTree in JSON from `source` to its end, writes the
 /// answer to `sink` and settles it; or, with `--make`, reads nothing, mangles a made input, and writes the lengths of

@@ -22,11 +22,7 @@ use tree_core::{Program, ReadError, is_too_large, read_tree};
 /// `NotJson`, `TooLarge` and `BadTree` come as `mangle_estree` has them, `BadScope` never.
 //
 // The JSON value is let go here, so that it and what becomes of the program are never held together.
-pub fn program_of(
-    alloc: Global,
-    input: &[u8],
-    reserved: usize,
-) -> Result<Program, MangleError>
+pub fn program_of(alloc: Global, input: &[u8], reserved: usize) -> Result<Program, MangleError>
     ensures ok { IfOk result (λ p. IsReadFrom reserved input.now p) }
     ensures few { IfOk result (λ p. node_count p + reserved < 2 ^ 30) }
     ensures cause { IfErr result (λ e. IsCauseOf reserved e input.now) }

@@ -12,11 +12,7 @@ use tool_words::Layout;
 use tree_core::Program;
 
 /// The text of a program's tree and of the paths to its literals. Err is want of memory.
-pub fn text_in(
-    alloc: Global,
-    program: &Program,
-    layout: Layout,
-) -> Result<String, AllocError>
+pub fn text_in(alloc: Global, program: &Program, layout: Layout) -> Result<String, AllocError>
     ensures { IfOk result
         (λ s. string_bytes s ≡ envelope (layout_of layout) (meaning_of program.now)) }
 {

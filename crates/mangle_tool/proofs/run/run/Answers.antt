@@ -1,4 +1,4 @@
-use Rattle.std.proofs.Common.{◌≡◌, sym, ap, subst, ◌∙◌}
+use Rattle.std.proofs.Common.{sym, ap, subst, ◌∙◌}
 use Rattle.std.proofs.lemmas.Option.{IfSome_then}
 use Rattle.mangle_tool.proofs.Ends.{ended_done, ended_too_long, ended_unwritten}
 use Rattle.mangle_tool.proofs.Settings.{begun_by, done_by}
