@@ -119,7 +119,10 @@ fn make_lengths(rt: HostRuntime) -> Result<(), Fail> {
         ),
     ] {
         let (status, text) = end_of_making(rt.alloc(), line)?;
-        assert!(rt; status == Status::Done && text.as_str() == told, "by {line}");
+        assert!(rt;
+            status == Status::Done && text.as_str() == told,
+            "by {line}"
+        );
     }
     Ok(())
 }
