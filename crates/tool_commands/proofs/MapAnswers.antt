@@ -1,8 +1,8 @@
 -- What `map` answers, by what its calls do.
-use Rattle.std.proofs.Common.{◌≡◌, ℕ, List, length, sym, subst}
-use Rattle.mangle_options.specs.Settings.{reserved_in}
+use Rattle.std.proofs.Common.{◌≡◌, ℕ, List, subst}
 use Rattle.mangle_options.specs.declared.options.MangleOptions.{MangleOptions}
-use Rattle.mangle_tool.specs.Answer.{IsProgramCause}
+use Rattle.mangle_tool.specs.Answer.{IsProgramCause, IsReadFrom}
+use Rattle.mangle_tool.specs.Asked.{Asked}
 use Rattle.mangle_tool.specs.Mangling.{IsMangling, options_for}
 use Rattle.mangle_tool.specs.declared.estree.error.MangleError.{MangleError}
 use Rattle.name_map.specs.Filled.{apply_map}
@@ -10,7 +10,7 @@ use Rattle.name_map.specs.Fits.{Fits}
 use Rattle.name_map.specs.Made.{IsMapOf}
 use Rattle.name_map.specs.Undoing.{Undoing}
 use Rattle.name_map.specs.Written.{IsMap}
-use Rattle.tool_commands.specs.Map.{IsMapText}
+use Rattle.tool_commands.specs.Map.{IsMapAnswer, IsMapText}
 use Rattle.tool_commands.specs.Mapped.{mapped_text}
 use Rattle.tree_nodes.specs.Tree.{Tree, alone}
 use Rattle.tree_places.specs.Renaming.{IsRenamed}
@@ -35,3 +35,7 @@ module _ (o : MangleOptions) (t copy : Tree) (same : copy ≡ t) where
 
   pub copy_cause : (e : MangleError) → IsProgramCause e copy → IsProgramCause e t
   copy_cause e cause = subst (λ (x : Tree). IsProgramCause e x) same cause
+
+-- so the text answers the input of which t is the program
+pub is_map_answer : (a : Asked) (input : List ℕ) (t : Tree) (text : List ℕ) → IsReadFrom a.reserved input t → IsMapText (a.options t) t text → IsMapAnswer a input text
+is_map_answer a input t text read answer = record { tree = t; read = read; answer = answer }

@@ -14,6 +14,7 @@ use std::alloc::{AllocError, Global};
 use tree_core::Program;
 
 // The name that a place had, as a list of both.
+#[derive(Clone, Copy)]
 struct OldPair<'m> {
     place: u32,
     name: &'m str,

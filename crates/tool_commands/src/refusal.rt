@@ -1,8 +1,5 @@
 //! Why an input has no answer.
 
-ghost use Rattle.std.specs.Prelude.{◌≡◌};
-ghost use Rattle.tool_commands.specs.declared.refusal.Refusal.TheVariants.{Input};
-
 use mangle_tool::estree::MangleError;
 use std::alloc::AllocError;
 
@@ -16,6 +13,9 @@ pub enum Refusal {
 }
 
 impl From<MangleError> for Refusal {
+    ghost use Rattle.std.specs.Prelude.{◌≡◌};
+    ghost use Rattle.tool_commands.specs.declared.refusal.Refusal.TheVariants.{Input};
+
     ghost from_gives = { λ error refusal. refusal ≡ Input error };
 
     fn from(error: MangleError) -> Self {
@@ -24,6 +24,8 @@ impl From<MangleError> for Refusal {
 }
 
 impl From<AllocError> for Refusal {
+    ghost use Rattle.std.specs.Prelude.{◌≡◌};
+    ghost use Rattle.tool_commands.specs.declared.refusal.Refusal.TheVariants.{Input};
     ghost use Rattle.mangle_tool.specs.declared.estree.error.MangleError.TheVariants as error;
 
     ghost from_gives = { λ _ refusal. refusal ≡ Input error.Memory };
