@@ -111,7 +111,10 @@ fn is_choosy(alloc: Global, place: &str, node: &str, others: &[&str]) -> Result<
 #[test]
 fn places_of_expressions(rt: HostRuntime) -> Result<(), Fail> {
     for place in EXPRESSION_PLACES {
-        assert!(rt; is_choosy(rt.alloc(), place, "@", &NO_EXPRESSIONS)?, "{place}");
+        assert!(rt;
+            is_choosy(rt.alloc(), place, "@", &NO_EXPRESSIONS)?,
+            "{place}"
+        );
     }
     Ok(())
 }
@@ -136,7 +139,10 @@ fn places_of_targets(rt: HostRuntime) -> Result<(), Fail> {
 fn places_of_statements(rt: HostRuntime) -> Result<(), Fail> {
     let empty = "{'type':'EmptyStatement'}";
     for place in STATEMENT_PLACES {
-        assert!(rt; is_choosy(rt.alloc(), place, empty, &NO_STATEMENTS)?, "{place}");
+        assert!(rt;
+            is_choosy(rt.alloc(), place, empty, &NO_STATEMENTS)?,
+            "{place}"
+        );
     }
     for place in BODY_PLACES {
         assert!(rt; is_choosy(rt.alloc(), place, empty, &NO_BODIES)?, "{place}");

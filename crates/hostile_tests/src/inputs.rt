@@ -24,7 +24,11 @@ fn a_byte_order_mark_is_no_json(rt: HostRuntime) -> Result<(), Fail> {
         (&b"\x00"[..], Some(MangleError::NotJson)),
         (&b"\xc2\xa0"[..], Some(MangleError::NotJson)),
     ] {
-        assert!(rt; error_after(rt.alloc(), front)? == error, "after {} bytes", front.len());
+        assert!(rt;
+            error_after(rt.alloc(), front)? == error,
+            "after {} bytes",
+            front.len()
+        );
     }
     Ok(())
 }
@@ -76,14 +80,25 @@ fn bytes_that_are_no_text_are_no_json(rt: HostRuntime) -> Result<(), Fail> {
         b"\n",
     ] {
         let error = error_of_string(rt.alloc(), content)?;
-        assert!(rt; error == Some(MangleError::NotJson), "of {} bytes", content.len());
+        assert!(rt;
+            error == Some(MangleError::NotJson),
+            "of {} bytes",
+            content.len()
+        );
     }
     Ok(())
 }
 
 // Why a module has no answer whose body is this, repeated with commas between.
-fn error_of_many(alloc: Global, item: &str, count: usize) -> Result<Option<MangleError>, AllocError> {
-    let mut input = String::from_str(alloc, "{\"type\":\"Program\",\"sourceType\":\"module\",\"body\":[")?;
+fn error_of_many(
+    alloc: Global,
+    item: &str,
+    count: usize,
+) -> Result<Option<MangleError>, AllocError> {
+    let mut input = String::from_str(
+        alloc,
+        "{\"type\":\"Program\",\"sourceType\":\"module\",\"body\":[",
+    )?;
     for i in 0..count {
         input.push_str(if i > 0 { "," } else { "" })?;
         input.push_str(item)?;
@@ -101,7 +116,10 @@ fn wide_lists_are_taken(rt: HostRuntime) -> Result<(), Fail> {
         ("{}", Some(MangleError::BadTree)),
         ("1e400", Some(MangleError::NotJson)),
     ] {
-        assert!(rt; error_of_many(rt.alloc(), item, 20_000)? == error, "of {item}");
+        assert!(rt;
+            error_of_many(rt.alloc(), item, 20_000)? == error,
+            "of {item}"
+        );
     }
     Ok(())
 }
@@ -113,7 +131,9 @@ fn error_of_deep(alloc: Global, depth: usize) -> Result<Option<MangleError>, All
         "{\"type\":\"Program\",\"sourceType\":\"module\",\"body\":[{\"type\":\"ExpressionStatement\",\"expression\":",
     )?;
     for _ in 0..depth {
-        input.push_str("{\"type\":\"UnaryExpression\",\"operator\":\"!\",\"prefix\":true,\"argument\":")?;
+        input.push_str(
+            "{\"type\":\"UnaryExpression\",\"operator\":\"!\",\"prefix\":true,\"argument\":",
+        )?;
     }
     input.push_str("{\"type\":\"Identifier\",\"name\":\"a\"}")?;
     for _ in 0..depth {
@@ -127,7 +147,10 @@ fn error_of_deep(alloc: Global, depth: usize) -> Result<Option<MangleError>, All
 fn deep_trees_are_taken_up_to_127_levels(rt: HostRuntime) -> Result<(), Fail> {
     // The program, its body, the statement and the name are four levels more.
     for (depth, error) in [(123, None), (124, Some(MangleError::NotJson))] {
-        assert!(rt; error_of_deep(rt.alloc(), depth)? == error, "of {depth} levels");
+        assert!(rt;
+            error_of_deep(rt.alloc(), depth)? == error,
+            "of {depth} levels"
+        );
     }
     Ok(())
 }

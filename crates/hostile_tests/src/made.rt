@@ -18,7 +18,10 @@ fn made_length(alloc: Global, functions: u32) -> Result<usize, AllocError> {
 #[test]
 fn made_inputs_have_the_stated_lengths(rt: HostRuntime) -> Result<(), Fail> {
     for (functions, length) in [(1, 605), (200, 105_063), (2_000, 1_053_863)] {
-        assert!(rt; made_length(rt.alloc(), functions)? == length, "of {functions}");
+        assert!(rt;
+            made_length(rt.alloc(), functions)? == length,
+            "of {functions}"
+        );
     }
     Ok(())
 }

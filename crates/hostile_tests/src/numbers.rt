@@ -31,7 +31,10 @@ fn numbers_are_whole_and_have_bounds(rt: HostRuntime) -> Result<(), Fail> {
         (UNITS, "0.5", false),
         (UNITS, "[0]", false),
     ] {
-        assert!(rt; is_tree(rt.alloc(), place, number)? == is_taken, "{number} in {place}");
+        assert!(rt;
+            is_tree(rt.alloc(), place, number)? == is_taken,
+            "{number} in {place}"
+        );
     }
     Ok(())
 }

@@ -1,12 +1,12 @@
 -- The made text is its pieces, one after the other.
-use Rattle.std.proofs.Common.{◌≡◌, ℕ, zero, suc, ◌+◌, ◌≤◌, ◌^◌, ◌<◌, Bool, true, false, List, [], ◌∷◌, ◌++◌, codes, decimal, IsUtf8, refl, sym, ap, ◌∙◌, subst, arith, append_assoc}
+use Rattle.std.proofs.Common.{◌≡◌, ℕ, zero, suc, ◌+◌, ◌≤◌, Bool, true, false, List, [], ◌∷◌, ◌++◌, codes, decimal, IsUtf8, refl, sym, ap, ◌∙◌, subst, arith, append_assoc}
 use Rattle.std.proofs.lemmas.Fmt.{IsAscii-decimal}
 use Rattle.std.proofs.lemmas.Str.{IsUtf8-append, IsUtf8-from_ascii, IsUtf8-nil}
 use Rattle.json.specs.Print.{escape, escape_byte, print_from}
 use Rattle.json.specs.Token.{Token}
 use Rattle.json.specs.Tree.{items_tokens, json_tokens, members_tokens}
 use Rattle.json.proofs.Printed.Utf8.{IsUtf8-are_ascii}
-use Rattle.json_text.specs.Json.{Members, member, no_members, null, string}
+use Rattle.json_text.specs.Json.{member, no_members, null, string}
 use Rattle.made_input.proofs.MadeNames.{digits_plain}
 use Rattle.made_input.proofs.MadeValues.{function_value, function_values, program_plain, program_value, text_told}
 use Rattle.made_input.proofs.PlainTexts.{escape_plain, raw, raw_items, raw_members, text_printed}

@@ -1,5 +1,5 @@
 -- What `serde_json` reads from the made text: the same values, each object's members by rising key.
-use Rattle.std.proofs.Common.{◌≡◌, ℕ, zero, suc, ◌≤◌, List, Bool, true, false, codes, Option, Some, None, option_and_then, option_map, refl, ap, ap₂, ◌∙◌, arith}
+use Rattle.std.proofs.Common.{◌≡◌, ℕ, zero, suc, ◌≤◌, List, false, codes, Option, Some, option_and_then, option_map, refl, ap, ap₂, ◌∙◌}
 use Rattle.json.specs.Json as json
 use Rattle.serde_json.specs.Data.{Data, null, boolean, number, unsigned, string, array, object, Items, no_items, item, Members, no_members, member, put}
 use Rattle.serde_json.specs.Read.{of_items, of_json, of_members, read}

@@ -51,8 +51,8 @@ node_shape : (k : Kind) (ms : Members) (ps : Parts) → IsNode k ms → run_of (
     → shape_of (object ms) ≡ Some (at_nought k ps)
 node_shape k ms ps h run =
     let found : row_for ms ≡ Some (row k) =
-        ap (λ (o : Option Json). option_and_then row_named (option_and_then text_in o)) h.named
-        ∙ ap (option_and_then row_named) (text_of_ascii (row k).name h.ascii) ∙ row_named-name k in
+    ap (λ (o : Option Json). option_and_then row_named (option_and_then text_in o)) h.named
+    ∙ ap (option_and_then row_named) (text_of_ascii (row k).name h.ascii) ∙ row_named-name k in
     shape_by ms (λ c. part_in ms c) (row k) ps found h.starts h.ends h.distinct h.known h.paired run
     ∙ ap (λ (x : Kind). Some (at_nought x ps)) (row_kind k)
 

@@ -1,5 +1,5 @@
 -- A made text is the text of the made tree.
-use Rattle.std.proofs.Common.{◌≡◌, refl}
+use Rattle.std.proofs.Common.{refl}
 use Rattle.made_input.proofs.MadeLimits.{text_within}
 use Rattle.made_input.proofs.MadePieces.{text_utf8}
 use Rattle.made_input.proofs.MadeReading.{functions_data, program_data, text_read}

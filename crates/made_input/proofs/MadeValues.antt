@@ -1,12 +1,12 @@
 -- The value of the made tree, as this project prints it.
-use Rattle.std.proofs.Common.{◌≡◌, ℕ, zero, suc, ◌+◌, ◌≤◌, List, Bool, true, false, codes, refl, ap, ap₂, ◌∙◌, arith}
+use Rattle.std.proofs.Common.{◌≡◌, ℕ, zero, suc, ◌+◌, ◌≤◌, List, true, false, codes, refl, ap, ap₂, arith}
 use Rattle.std.specs.Str.{chars}
 use Rattle.json.specs.Tree.{depth, items_depth}
 use Rattle.json_text.proofs.Units.{units_of-IsAscii}
 use Rattle.json_text.specs.Json.{Json, null, truth, string, list, Items, no_items, item, Members, no_members, member}
 use Rattle.json_text.specs.Layout.{compact}
 use Rattle.json_text.specs.Text.{text_of}
-use Rattle.tree_core.specs.Values.{items_value, node_value, value_of}
+use Rattle.tree_core.specs.Values.{items_value, node_value}
 use Rattle.tree_nodes.specs.declared.kind.Kind.TheVariants.{BlockStatement, CallExpression, FunctionDeclaration, Identifier, Program, ReturnStatement}
 use Rattle.made_input.proofs.MadeNames.{name_plain}
 use Rattle.made_input.proofs.PlainTexts.{IsAscii-plain, are_plain, is_plain, is_plain_text, raw, raw_items}

@@ -1,5 +1,5 @@
 -- What `serde_json` reads from the compact text of a plain value.
-use Rattle.std.proofs.Common.{◌≡◌, ℕ, zero, suc, ◌≤◌, ◌++◌, pos, negsuc, List, [], Bool, true, false, ◌&&◌, codes, Option, Some, option_and_then, option_map, subst, sym, ap, ◌∙◌, arith, append-nil}
+use Rattle.std.proofs.Common.{◌≡◌, ◌≤◌, ◌++◌, List, [], true, ◌&&◌, codes, Option, Some, option_and_then, option_map, subst, sym, ap, ◌∙◌, arith, append-nil}
 use Rattle.std.proofs.lemmas.Bool.{and_parts}
 use Rattle.std.proofs.lemmas.Fmt.{decimal_digit}
 use Rattle.json.specs.Json as json
@@ -53,6 +53,6 @@ mutual
 pub plain_text_reads : (v : Json) → is_plain v ≡ true → depth (raw v) ≤ max_depth → read (text_of compact v) ≡ of_json (raw v)
 plain_text_reads v h shallow =
     let ts : tokens (text_of compact v) ≡ json_tokens (raw v) ++ [] =
-        ap tokens (text_printed v h) ∙ tokens-print (json_tokens (raw v)) (ArePrintable-json_tokens (raw v) (has_numbers v h)) ∙ sym (append-nil (json_tokens (raw v))) in
+    ap tokens (text_printed v h) ∙ tokens-print (json_tokens (raw v)) (ArePrintable-json_tokens (raw v) (has_numbers v h)) ∙ sym (append-nil (json_tokens (raw v))) in
     ap (λ (o : Option (json.Json × List Token)). option_and_then of_json (option_and_then (λ p. if_last p.0 p.1) o))
     (ap (value max_depth) ts ∙ value-json_tokens (raw v) max_depth [] shallow)

@@ -1,5 +1,5 @@
 -- Places of which none can be at fault: none is private, a `var` or a function in a block of sloppy code, what declares is joinable, and no reference lies in a parameter.
-use Rattle.std.proofs.Common.{◌≡◌, ℕ, ◌⊎◌, inl, inr, Bool, true, false, not, ◌&&◌, ◌||◌, List, [], ◌∷◌, map, Option, Some, None, refl, ◌∙◌}
+use Rattle.std.proofs.Common.{◌≡◌, ℕ, ◌⊎◌, inl, inr, Bool, true, false, not, ◌&&◌, List, [], ◌∷◌, map, Option, Some, None, refl, ◌∙◌}
 use Rattle.std.specs.List.{list_any}
 use Rattle.list_laws.proofs.AllOf.{AllOf, of_each}
 use Rattle.list_laws.proofs.AnyOf.{any_map, any_none}
@@ -68,7 +68,7 @@ unfolding has_redeclaration
 no_redeclaration [] a = refl
 no_redeclaration (p ∷ ps) a =
     let here : list_any (redeclares same_name p) ps ≡ false =
-        any_none (redeclares same_name p) ps (λ (q : Place) (i : In q ps). none_redeclares p q a.0 (of_each (λ (r : Place). IsQuiet r.site) ps q a.1 i)) in
+    any_none (redeclares same_name p) ps (λ (q : Place) (i : In q ps). none_redeclares p q a.0 (of_each (λ (r : Place). IsQuiet r.site) ps q a.1 i)) in
     rw (here, no_redeclaration ps a.1) refl
 
 none_crosses : (ps : List Place) (p : Place) → IsQuiet p.site → crosses same_name ps p ≡ false
@@ -102,6 +102,6 @@ quiet_places_are_sound ps a =
     let sloppy : list_any (λ (p : Place). is_sloppy_function p.site) ps ≡ false = any_none (λ (p : Place). is_sloppy_function p.site) ps (λ (p : Place) (i : In p ps). (quiet p i).plain) in
     let undeclared : list_any (is_undeclared same_name ps) ps ≡ false = any_none (is_undeclared same_name ps) ps (λ (p : Place) (i : In p ps). none_undeclared ps p (quiet p i)) in
     let reach : list_any (reaches_body bs) bs ≡ false =
-        any_map with_binding (reaches_body bs) ps
-        ∙ any_none (λ (p : Place). reaches_body bs (with_binding p)) ps (λ (p : Place) (i : In p ps). none_reaches bs (with_binding p) (quiet p i)) in
+    any_map with_binding (reaches_body bs) ps
+    ∙ any_none (λ (p : Place). reaches_body bs (with_binding p)) ps (λ (p : Place) (i : In p ps). none_reaches bs (with_binding p) (quiet p i)) in
     rw (no_redeclaration ps a, crossing, sloppy, undeclared, reach) refl

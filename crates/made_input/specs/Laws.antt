@@ -1,9 +1,9 @@
 -- That a made text is the text of a program: what it reads as is within the limits, and is the made tree, which has no fault.
-use Rattle.std.specs.Prelude.{◌≡◌, ℕ, ◌≤◌, List, Some, None, false, IsFalse, option_and_then}
+use Rattle.std.specs.Prelude.{◌≡◌, ℕ, ◌≤◌, List, Some, false, IsFalse}
 use Rattle.std.specs.Str.{IsUtf8}
 use Rattle.scope_rules.specs.Bindings.{same_name}
 use Rattle.scope_rules.specs.Faults.{has_fault}
-use Rattle.serde_json.specs.Data.{Data, Members, object}
+use Rattle.serde_json.specs.Data.{Members, object}
 use Rattle.serde_json.specs.Events.{members_len}
 use Rattle.serde_json.specs.Read.{read}
 use Rattle.tree_core.specs.JsonOf.{json_of}

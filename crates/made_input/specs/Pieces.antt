@@ -1,5 +1,5 @@
 -- The made text in the pieces in which it is written.
-use Rattle.std.specs.Prelude.{ℕ, zero, suc, Bool, true, false, List, [], ◌∷◌, ◌++◌, codes, decimal, if◌then◌else◌}
+use Rattle.std.specs.Prelude.{ℕ, zero, suc, Bool, true, List, [], ◌∷◌, ◌++◌, codes, decimal, if◌then◌else◌}
 
 -- up to the number in a function's name, from there to that in the call, and the rest
 abbrev pub before_name : List ℕ

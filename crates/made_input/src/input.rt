@@ -12,12 +12,18 @@ pub const MOST_FUNCTIONS: u32 = 2_000;
 
 // Before the first function, and after the last one.
 const BEFORE_FUNCTIONS: &str = r#"{"type":"Program","start":0,"end":0,"body":["#;
+
 const AFTER_FUNCTIONS: &str = r#"],"sourceType":"module","hashbang":null}"#;
 
 // Before, between and after the two names of a function, which both begin with `f`.
-const BEFORE_NAME: &str = r#"{"type":"FunctionDeclaration","start":0,"end":0,"id":{"type":"Identifier","start":0,"end":0,"name":"f"#;
-const BETWEEN_NAMES: &str = r#""},"generator":false,"async":false,"params":[{"type":"Identifier","start":0,"end":0,"name":"a"}],"body":{"type":"BlockStatement","start":0,"end":0,"body":[{"type":"ReturnStatement","start":0,"end":0,"argument":{"type":"CallExpression","start":0,"end":0,"callee":{"type":"Identifier","start":0,"end":0,"name":"f"#;
-const AFTER_NAMES: &str = r#""},"arguments":[{"type":"Identifier","start":0,"end":0,"name":"a"}],"optional":false}}]},"expression":false}"#;
+const BEFORE_NAME: &str =
+    r#"{"type":"FunctionDeclaration","start":0,"end":0,"id":{"type":"Identifier","start":0,"end":0,"name":"f"#;
+
+const BETWEEN_NAMES: &str =
+    r#""},"generator":false,"async":false,"params":[{"type":"Identifier","start":0,"end":0,"name":"a"}],"body":{"type":"BlockStatement","start":0,"end":0,"body":[{"type":"ReturnStatement","start":0,"end":0,"argument":{"type":"CallExpression","start":0,"end":0,"callee":{"type":"Identifier","start":0,"end":0,"name":"f"#;
+
+const AFTER_NAMES: &str =
+    r#""},"arguments":[{"type":"Identifier","start":0,"end":0,"name":"a"}],"optional":false}}]},"expression":false}"#;
 
 /// The ESTree in JSON, with no white space and all offsets 0, of the module
 /// `function f0(a) { return f0(a) } function f1(a) { return f1(a) } ..`, of `n` functions.
