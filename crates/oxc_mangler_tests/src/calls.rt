@@ -76,7 +76,7 @@ fn programs_are_mangled_with_one_arena(rt: HostRuntime) -> Result<(), Fail> {
     let alloc = rt.alloc();
     let mut arena = Bump::new(alloc);
     assert!(rt; mangled_in(alloc, &arena, WRAPPED)?.as_str() == "e t e t t ");
-    arena.reset();
+    let _ = arena.reset();
     assert!(rt; mangled_in(alloc, &arena, RANKED)?.as_str() == "e t ");
     assert!(rt; mangled_in(alloc, &arena, FAULTY)?.as_str() == "bad scope");
     Ok(())
