@@ -116,6 +116,15 @@ one_put true true put old before after first h e = e
 one_put true false put old before after first h e = h ∙ e
 one_put false same put old before after first h e = h
 
+-- a name that isn't put
+pub none_named : (m : ℕ → Text → Option Text) (c k : ℕ) (y x : Text) (new : Option Text) → new ≡ None → m c y ≡ None → m k x ≡ cond (nat_eq c k && same_name y x) new (m k x)
+none_named m c k y x new e h = go (nat_eq c k) refl (same_name y x) refl
+  where
+    go : (a : Bool) → nat_eq c k ≡ a → (b : Bool) → same_name y x ≡ b → m k x ≡ cond (a && b) new (m k x)
+    go true f true g = ap (λ (j : ℕ). m j x) (sym (eqb-true c k f)) ∙ ap (m c) (sym (same_told y x g)) ∙ h ∙ sym e
+    go true f false g = refl
+    go false f b g = refl
+
 -- where nothing is put yet
 pub none_put : (b k : ℕ) (old : Option Text) → (b ≡ k → old ≡ None) → old ≡ cond (nat_eq b k) None old
 none_put b k old h = go (nat_eq b k) refl

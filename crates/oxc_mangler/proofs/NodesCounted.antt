@@ -1,6 +1,6 @@
 -- The nodes of a tree are as many as it has.
-use Rattle.std.specs.Prelude.{◌≡◌, ℕ, suc, ◌+◌, List, ◌++◌, length, map, slice_get, Some}
-use Rattle.std.proofs.Common.{refl, ap, ◌∙◌, arith}
+use Rattle.std.specs.Prelude.{◌≡◌, ℕ, suc, ◌+◌, List, ◌++◌, length, map, slice_get, IfSome}
+use Rattle.std.proofs.Common.{refl, subst, ◌∙◌, arith}
 use Rattle.std.proofs.lemmas.List.{length-append, length-map}
 use Rattle.place_list.specs.Nodes.{NestedNode, NodeAt, nested, nested_nodes, nodes, nodes_from}
 use Rattle.place_list.specs.ScopeKinds.{value_scope}
@@ -39,6 +39,8 @@ unfolding nested_nodes nodes
 nodes_counted t = length-map (nodes_from t (all unlisted) before_all Function nothing_yet) nested ∙ counted_from t (all unlisted) before_all Function nothing_yet
 
 -- the first is the root
-pub root_first : (t : Tree) (ns : List NodeTold) → ns ≡ map told (nested_nodes (alone t)) → (n : NodeTold) → slice_get ns 0 ≡ Some n → n.tree ≡ t
+pub root_is : (t : Tree) (ns : List NodeTold) → ns ≡ map told (nested_nodes (alone t)) → (k : ℕ) → k ≡ 0 → (r : Tree) → IfSome (slice_get ns k) (λ n. r ≡ n.tree) → r ≡ t
 unfolding nested_nodes nodes nodes_from nested told
-root_first t ns e n at = cc
+root_is t ns e k z r h =
+    subst (λ (j : ℕ). IfSome (slice_get (map told (nested_nodes (alone t))) j) (λ n. r ≡ n.tree)) z
+    (subst (λ (ms : List NodeTold). IfSome (slice_get ms k) (λ n. r ≡ n.tree)) e h)

@@ -1,5 +1,5 @@
 -- What options ask of a tree, by their settings.
-use Rattle.std.specs.Prelude.{◌≡◌, ℕ, Bool, true, false, not, nat_eq, List, [], Option, None, Some}
+use Rattle.std.specs.Prelude.{◌≡◌, Bool, false, List, [], Option, None, Some}
 use Rattle.std.proofs.Common.{refl, ap, ◌∙◌}
 use Rattle.mangle_options.specs.Settings.{options_in, reserved_in}
 use Rattle.mangle_options.specs.declared.options.MangleOptions.{MangleOptions}
@@ -24,8 +24,3 @@ usual_asked o top a b c d t =
 pub given_asked : (o : MangleOptions) (t : Parts) → asked_with o t ≡ asked (Some o) t
 unfolding asked
 given_asked o t = refl
-
--- whether a number isn't 0
-pub not_zero : (n : ℕ) (b : Bool) → (b ≡ true → n ≡ 0 → ⊥) → (b ≡ false → n ≡ 0) → b ≡ not (nat_eq n 0)
-not_zero n true f g = grind (f refl)
-not_zero n false f g = ap (λ (m : ℕ). not (nat_eq m 0)) (g refl)

@@ -6,6 +6,7 @@ use Rattle.oxc_mangler.proofs.ClassNamesFound.{names_found, names_of, none_past}
 use Rattle.oxc_mangler.proofs.LookedUp.{one_class}
 use Rattle.oxc_mangler.specs.ClassNames.{looked_up, new_class_name}
 use Rattle.place_list.specs.TableViews.{places_in}
+use Rattle.place_list.specs.declared.tables.PlaceList.{PlaceList}
 use Rattle.private_numbers.specs.AllNumbers.{table_in}
 use Rattle.scope_rules.specs.PrivateNames.{private_names}
 use Rattle.tree_nodes.specs.Tree.{Text}
@@ -21,7 +22,7 @@ loop-class_body-init c = record {
 pub push_names-requires-clause-class_body : goal.push_names-requires-clause-class_body
 push_names-requires-clause-class_body c =
     let same : length (list_in (table_in c.args.numbers.now)).class_bodies.items ≡ length (list_in c.args.table.now).class_bodies.items = ap (λ (t : PrivateTable). length (list_in t).class_bodies.items) c.requires.same in
-    omega (arith, same, ap (λ l. length l.class_bodies.items) c.list.ensures, ap length c.as_slice.ensures.value)
+    omega (arith, same, ap (λ (l : PlaceList). length l.class_bodies.items) c.list.ensures, ap length c.as_slice-count.ensures.value, c.loop-class_body-test.true)
 
 pub push_names-requires-clause-olds : goal.push_names-requires-clause-olds
 push_names-requires-clause-olds c = c.private_names.ensures ∙ ap (λ (t : PrivateTable). private_names (places_in (list_in t)) c.loop-class_body.class_body) (sym c.requires.same)
@@ -49,4 +50,7 @@ loop-class_body-preserved c =
     }
 
 pub returns : goal.returns
-returns c = names_found (list_in c.args.table.now) c.requires.whole.bounded c.loop-class_body.names (λ k x. c.loop-class_body.invariant.names k x) c.loop-class_body.invariant.count
+returns c =
+    let l = list_in c.args.table.now in
+    let all : c.loop-class_body.class_body ≡ length l.class_bodies.items = omega (arith, ap (λ (m : PlaceList). length m.class_bodies.items) c.list.ensures, ap length c.as_slice-count.ensures.value, c.loop-class_body-test.false, c.loop-class_body.auto) in
+    names_found l c.requires.whole.bounded c.loop-class_body.names (λ k x. c.loop-class_body.invariant.names k x ∙ ap (λ (n : ℕ). cond (nat_lt k n) (names_of l k x) None) all) (c.loop-class_body.invariant.count ∙ all)

@@ -10,6 +10,7 @@ use Rattle.tree_apply.specs.Applied.{HasFewBytes, applied, new_of, numbered, tak
 use Rattle.tree_nodes.specs.Tree.{Parts, Text, alone}
 use Rattle.tree_places.specs.Chosen.{chosen, spare_plain}
 use Rattle.tree_places.specs.Places.{Place, names, places, sites}
+use Rattle.tree_places.specs.Renaming.{IsRenamed}
 use Rattle.tree_semantic.specs.Renamed.{new_name}
 use Rattle.tree_semantic.specs.Semantics.{scoping_of}
 use Rattle.tree_symbols.specs.Scopings.{name_set}
@@ -36,3 +37,41 @@ rename-requires-clause-identifiers c =
 pub rename-requires-clause-short : goal.rename-requires-clause-short
 rename-requires-clause-short c =
     subst (λ (ss : List (String Global)). AllByRecursion (λ s. HasFewBytes (string_bytes s)) ss) (sym c.as_slice-2.ensures.value) c.in_ok-given.ensures.short
+
+pub returns-clause-renamed : goal.returns-clause-renamed
+returns-clause-renamed c =
+    subst (λ r. IsRenamed (alone r) (alone c.in_ok-renamed.renamed)) (c.from_root-copy.ensures ∙ c.in_ok-try_clone.ensures ∙ c.root-root.ensures.root) c.in_ok-renamed.ensures.renamed
+
+pub returns-clause-names : goal.returns-clause-names
+returns-clause-names c =
+    let t = alone c.args.program.now in
+    let name = name_set (scoping_of c.args.semantic.now) in
+    let private = new_name c.args.mappings.now in
+    let f : Place → Option Text = new_of (places t) name private in
+    let listed = c.in_ok-list.ensures.places ∙ ap (λ r. places (alone r)) c.root-root.ensures.root in
+    c.in_ok-renamed.ensures.names
+    ∙ ap (λ (given : List Text). chosen given c.as_slice.result.now (names (alone c.from_root-copy.result))) (ap (λ (ss : List (String Global)). map string_bytes ss) c.as_slice-2.ensures.value ∙ c.in_ok-given.ensures.names t listed c.requires.analysis)
+    ∙ ap (λ cs. chosen (taken (map f (places t))) cs (names (alone c.from_root-copy.result))) (c.as_slice.ensures.value ∙ c.in_ok-given.ensures.choices t listed c.requires.analysis)
+    ∙ ap (λ r. chosen (taken (map f (places t))) (numbered 0 (map f (places t))) (names (alone r))) (c.from_root-copy.ensures ∙ c.in_ok-try_clone.ensures ∙ c.root-root.ensures.root)
+    ∙ ap (chosen (taken (map f (places t))) (numbered 0 (map f (places t)))) (sym (names_of_places t))
+    ∙ chosen_given f (places t) []
+    ∙ all_called (places t) name private
+
+pub returns-clause-mangled : goal.returns-clause-mangled
+returns-clause-mangled c = λ o named are.
+    let t = alone c.args.program.now in
+    let name = name_set (scoping_of c.args.semantic.now) in
+    let private = new_name c.args.mappings.now in
+    let f : Place → Option Text = new_of (places t) name private in
+    let listed = c.in_ok-list.ensures.places ∙ ap (λ r. places (alone r)) c.root-root.ensures.root in
+    applied_mangles o c.args.program.now c.in_ok-renamed.renamed name private c.root-root.ensures.program c.requires.analysis.faultless
+    (subst (λ r. IsRenamed (alone r) (alone c.in_ok-renamed.renamed)) (c.from_root-copy.ensures ∙ c.in_ok-try_clone.ensures ∙ c.root-root.ensures.root) c.in_ok-renamed.ensures.renamed)
+    (c.in_ok-renamed.ensures.names
+    ∙ ap (λ (given : List Text). chosen given c.as_slice.result.now (names (alone c.from_root-copy.result))) (ap (λ (ss : List (String Global)). map string_bytes ss) c.as_slice-2.ensures.value ∙ c.in_ok-given.ensures.names t listed c.requires.analysis)
+    ∙ ap (λ cs. chosen (taken (map f (places t))) cs (names (alone c.from_root-copy.result))) (c.as_slice.ensures.value ∙ c.in_ok-given.ensures.choices t listed c.requires.analysis)
+    ∙ ap (λ r. chosen (taken (map f (places t))) (numbered 0 (map f (places t))) (names (alone r))) (c.from_root-copy.ensures ∙ c.in_ok-try_clone.ensures ∙ c.root-root.ensures.root)
+    ∙ ap (chosen (taken (map f (places t))) (numbered 0 (map f (places t)))) (sym (names_of_places t))
+    ∙ chosen_given f (places t) []
+    ∙ all_called (places t) name private)
+    named
+    are.declared
