@@ -1,0 +1,7 @@
+pub mod Exports
+pub mod Rules
+pub mod Found
+pub mod Findings
+pub mod Laws
+pub mod Sets
+pub mod Views
