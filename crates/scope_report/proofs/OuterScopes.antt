@@ -3,13 +3,15 @@ use Rattle.std.specs.Prelude.{◌≡◌, ℕ, Bool, true, false, cond, not, ◌&
 use Rattle.std.specs.List.{list_any}
 use Rattle.std.proofs.Common.{refl, sym, ap, ◌∙◌}
 use Rattle.name_rules.specs.Kept.{is_root}
-use Rattle.place_list.specs.TableViews.{lists_in, scope_at}
+use Rattle.place_list.specs.Bounds.{IsBounded}
+use Rattle.place_list.specs.TableViews.{list_view, lists_in, scope_at}
 use Rattle.place_list.specs.declared.tables.PlaceList.{PlaceList}
 use Rattle.scope_report.proofs.EitherTest.{any_either}
 use Rattle.scope_report.specs.Rules.{any_outwards, declares_in, outside}
 use Rattle.scope_rules.specs.Bindings.{at_home, binder, declares_at, names_function_at, node_of, or_else, plain_binder, same_name}
 use Rattle.scope_rules.specs.Homes.{declares, declares_plainly, is_function_name, names_function}
-use Rattle.scope_tables.proofs.Numbers.{none_outside}
+use Rattle.scope_tables.proofs.Numbers.{Next, none_outside, scope_outwards}
+use Rattle.scope_tables.specs.Views.{IsScope}
 use Rattle.tree_nodes.specs.Tree.{Text}
 use Rattle.tree_places.specs.Places.{Place}
 use Rattle.tree_places.specs.Scopes.{Scope, first_outwards}
@@ -79,3 +81,12 @@ module _ (ps : List Place) (x : Text) (h : Scope) where
       ∙ ap (λ (b : Bool). list_any (declares_at same_name x h) ps || b) (is_found (names_function_at same_name x h) ps)
       ∙ any_either (declares_at same_name x h) (names_function_at same_name x h) ps
       ∙ any_way ps
+
+-- ---- scopes by their numbers
+
+module _ (l : PlaceList) (bounded : IsBounded (list_view l)) where
+  pub root_told : (s : Scope) (o : Option ℕ) → IsScope l o → scope_at l o ≡ outside s → (b : Bool) → is_some o ≡ not b → b ≡ is_root s
+  root_told s None known e true t = root_outside s (sym e ∙ none_outside (lists_in l).scopes)
+  root_told s None known e false t = absurd (cc)
+  root_told s (Some m) known e true t = absurd (cc)
+  root_told s (Some m) known e false t = let w : Next (scope_at l) m = scope_outwards l bounded m known in more_outside s m (scope_at l w.0) (sym e ∙ w.1.0)

@@ -3,5 +3,6 @@ pub mod Rules
 pub mod Found
 pub mod Findings
 pub mod Laws
+pub mod Positions
 pub mod Sets
 pub mod Views

@@ -12,6 +12,7 @@ mod found;
 mod laws;
 mod lines;
 mod marks;
+mod positions;
 mod reporting;
 mod roles;
 mod sets;

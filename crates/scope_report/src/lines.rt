@@ -1,13 +1,14 @@
 //! Lines and columns of what is found.
 
-ghost use Rattle.std.specs.Prelude.{◌≡◌, ◌∷◌, ◌++◌, ◌<◌, ◌^◌, [], IfOk, OnOk, false, length, map, true};
-ghost use Rattle.std.specs.Str.{IsCharBoundary};
+ghost use Rattle.std.specs.Prelude.{◌≡◌, ◌∷◌, ◌++◌, ◌<◌, ◌^◌, [], IfOk, OnOk, Some, false, length, map, slice_get, true};
 ghost use Rattle.scope_report.specs.Findings.{HasBadSpan, StartInText, located};
+ghost use Rattle.scope_report.specs.Positions.{position_of};
 ghost use Rattle.scope_report.specs.Views.{found_view, found_views};
+ghost use Rattle.tree_nodes.specs.Tree.{Text};
 
 use crate::finding::Finding;
 use crate::found::FoundAt;
-use oxc_data_structures::rope::{Rope, get_line_column};
+use crate::positions::{Position, positions};
 use std::alloc::{AllocError, Global};
 use tree_nodes::TreeText;
 
@@ -34,13 +35,39 @@ pub fn locate(
     requires starts { StartInText source_text.now (found_views found.now) }
     ensures { IfOk result (λ v. v.items ≡ map (located source_text.now) (found_views found.now)) }
 {
-    let rope = Rope::from_str(alloc, source_text)?;
+    let positions = positions(alloc, source_text)?;
     let mut findings = Vec::new(alloc);
     for one in found {
-        let finding = located(alloc, &rope, source_text, one)?;
+        let position = position_at(positions.as_slice(), one.start);
+        let finding = located(alloc, one, position)?;
         push_finding(&mut findings, finding)?;
     }
     Ok(findings)
+}
+
+// The position of an offset.
+fn position_at(positions: &[Position], offset: u32) -> Position
+    requires { offset < length positions.now }
+    ensures { slice_get positions.now offset ≡ Some result }
+{
+    positions[offset as usize]
+}
+
+// What is found, with its line and column.
+fn located(
+    alloc: Global,
+    one: &FoundAt<'_>,
+    position: Position,
+) -> Result<Finding, AllocError>
+    ensures { IfOk result (λ f. (text : Text) → position ≡ position_of text one.now.start → f ≡ located text (found_view one.now)) }
+{
+    let name = TreeText::from_string(String::from_str(alloc, one.name)?);
+    Ok(Finding {
+        rule: one.rule,
+        name,
+        line: position.line,
+        column: position.column,
+    })
 }
 
 // Appends a finding.
@@ -51,25 +78,4 @@ fn push_finding(findings: &mut Vec<Finding>, finding: Finding) -> Result<(), All
         Ok(()) => Ok(()),
         Err(_) => Err(AllocError),
     }
-}
-
-// One of them, by the rope of the text.
-fn located(
-    alloc: Global,
-    rope: &Rope,
-    source_text: &str,
-    one: &FoundAt<'_>,
-) -> Result<Finding, AllocError>
-    requires own_text { source_text.now ≡ rope.now }
-    requires boundary { IsCharBoundary source_text.now one.now.start }
-    ensures { IfOk result (λ f. f ≡ located source_text.now (found_view one.now)) }
-{
-    let (line, column) = get_line_column(rope, one.start, source_text);
-    let name = TreeText::from_string(String::from_str(alloc, one.name)?);
-    Ok(Finding {
-        rule: one.rule,
-        name,
-        line,
-        column,
-    })
 }
