@@ -37,7 +37,7 @@ names_default ns s = names_declaration s.setting.role && exports_by_default ns (
 
 -- q declares the binding n in the `declaration` of an ExportNamedDeclaration, or as such an `id`
 unfoldable pub exports : List NestedNode → ℕ → Bound Text → Bool
-exports ns n q = declares q.place.site && is_node q.binding n && (q.place.site.setting.exported || names_default ns q.place.site)
+exports ns n q = declares q.place.site && (q.place.site.setting.exported || names_default ns q.place.site) && is_node q.binding n
 
 -- b is at home in the root, and one of its places declares it so
 unfoldable pub is_exported : List NestedNode → List (Bound Text) → Bound Text → Bool

@@ -1,6 +1,6 @@
 //! The bindings that an export exports by a declaration.
 
-ghost use Rattle.std.specs.Prelude.{◌≡◌, ◌||◌, ℕ, IfOk, Some, option_and_then};
+ghost use Rattle.std.specs.Prelude.{◌≡◌, ◌||◌, ℕ, IfOk, Some, option_and_then, option_copied, slice_get};
 ghost use Rattle.place_list.specs.TableViews.{nested_nodes_in, places_in};
 ghost use Rattle.place_list.specs.declared.tables.PlaceList.{PlaceList};
 ghost use Rattle.scope_report.specs.Exports as spec;
@@ -15,11 +15,11 @@ use crate::bound::{BoundPlace, bound_place};
 use crate::roles::names_declaration;
 use crate::sets::put;
 use crate::sites::declares;
-use place_list::{PlaceEntry, PlaceList};
+use place_list::{NodeEntry, PlaceEntry, PlaceList};
 use scope_tables::ScopeTables;
 use std::alloc::{AllocError, Global};
 use std::collections::BTreeSet;
-use tree_nodes::Kind;
+use tree_nodes::{Kind, Node};
 
 /// Those of a tree whose nodes are listed. Err is want of memory.
 pub fn exported_bindings(
@@ -42,7 +42,10 @@ pub fn exported_bindings(
 fn exported_binding(nodes: &PlaceList<'_>, place: &BoundPlace<'_>) -> Option<u32>
     ensures { (l : PlaceList) (n : ℕ) → is_node result n ≡ exports (nested_nodes_in nodes.now) n (bound_of l place.now) }
 {
-    if declares(&place.place) && lies_in_export(nodes, &place.place) {
+    if !declares(&place.place) {
+        return None;
+    }
+    if lies_in_export(nodes, &place.place) {
         place.binding
     } else {
         None
@@ -50,6 +53,7 @@ fn exported_binding(nodes: &PlaceList<'_>, place: &BoundPlace<'_>) -> Option<u32
 }
 
 // Whether what it declares is exported.
+#[tactic(auto, unfolding(place_list::specs::Tables::site_of, place_list::specs::Tables::setting_of))]
 fn lies_in_export(nodes: &PlaceList<'_>, place: &PlaceEntry<'_>) -> bool
     ensures { (l : PlaceList) → result ≡ ((site_in l place.now).setting.exported || spec.names_default (nested_nodes_in nodes.now) (site_in l place.now)) }
 {
@@ -57,6 +61,7 @@ fn lies_in_export(nodes: &PlaceList<'_>, place: &PlaceEntry<'_>) -> bool
 }
 
 // Whether it names the declaration of a default export.
+#[tactic(auto, unfolding(crate::specs::Exports::names_default, place_list::specs::Tables::site_of, place_list::specs::Tables::setting_of))]
 fn names_default(nodes: &PlaceList<'_>, place: &PlaceEntry<'_>) -> bool
     ensures { (l : PlaceList) → result ≡ spec.names_default (nested_nodes_in nodes.now) (site_in l place.now) }
 {
@@ -78,13 +83,21 @@ fn second_around(nodes: &PlaceList<'_>, node: u32) -> Option<u32>
 fn node_around(nodes: &PlaceList<'_>, node: u32) -> Option<u32>
     ensures { result ≡ spec.node_around (nested_nodes_in nodes.now) node }
 {
-    match nodes.node_entries.as_slice().get(node as usize) {
+    match entry_at(nodes.node_entries.as_slice(), node) {
         Some(entry) => Some(entry.parent),
         None => None,
     }
 }
 
+// The entry of this number.
+fn entry_at<'l, 't>(entries: &'l [NodeEntry<'t>], node: u32) -> Option<&'l NodeEntry<'t>>
+    ensures { option_copied result ≡ slice_get entries.now node }
+{
+    entries.get(node as usize)
+}
+
 // Whether it is a default export.
+#[tactic(auto, unfolding(crate::specs::Exports::exports_by_default))]
 fn exports_by_default(nodes: &PlaceList<'_>, node: Option<u32>) -> bool
     ensures { result ≡ spec.exports_by_default (nested_nodes_in nodes.now) node }
 {
@@ -97,14 +110,20 @@ fn exports_by_default(nodes: &PlaceList<'_>, node: Option<u32>) -> bool
 fn is_default_export_at(nodes: &PlaceList<'_>, node: u32) -> bool
     ensures { result ≡ spec.exports_by_default (nested_nodes_in nodes.now) (Some node) }
 {
-    match nodes.node_entries.as_slice().get(node as usize) {
-        Some(entry) => is_default_export(entry.node.kind),
+    match entry_at(nodes.node_entries.as_slice(), node) {
+        Some(entry) => is_default_export(entry.node),
         None => false,
     }
 }
 
+fn is_default_export(node: &Node) -> bool
+    ensures { result ≡ spec.is_default_export node.now.kind }
+{
+    is_default_export_kind(node.kind)
+}
+
 #[tactic(auto, unfolding(crate::specs::Exports::is_default_export))]
-fn is_default_export(kind: Kind) -> bool
+fn is_default_export_kind(kind: Kind) -> bool
     ensures { result ≡ spec.is_default_export kind }
 {
     matches!(kind, Kind::ExportDefaultDeclaration)

@@ -1,6 +1,6 @@
 //! What other places say of a binding.
 
-ghost use Rattle.std.specs.Prelude.{◌≡◌, IfOk, List};
+ghost use Rattle.std.specs.Prelude.{◌≡◌, ◌&&◌, IfOk, List, not};
 ghost use Rattle.place_list.specs.Nodes.{NestedNode};
 ghost use Rattle.place_list.specs.TableViews.{nested_nodes_in, places_in};
 ghost use Rattle.scope_report.specs.Exports.{is_exported};
@@ -49,9 +49,10 @@ impl Marks {
         requires { Stands list.now place.now.place }
         ensures { (ns : List NestedNode) (bs : List (Bound Text)) → AreMarks ns bs self.now → result ≡ is_unused ns bs (bound_of list.now place.now) }
     {
+        let own = is_binding(place);
         let used = has(&self.used, place.place.node);
         let exported = self.is_exported(list, place);
-        is_binding(place) && !used && !exported
+        is_left(own, used, exported)
     }
 
     // Whether it is exported from the root.
@@ -62,4 +63,11 @@ impl Marks {
         let declared = has(&self.exported, place.place.node);
         is_root(list, home(&place.place)) && declared
     }
+}
+
+// Whether it is a binding for which nothing speaks.
+fn is_left(own: bool, used: bool, exported: bool) -> bool
+    ensures { result ≡ (own && not used && not exported) }
+{
+    own && !used && !exported
 }

@@ -12,7 +12,7 @@ binding_at-requires c = let l = c.args.tables.now.list in omega (arith, ap lengt
 pub returns-clause-place : goal.returns-clause-place
 returns-clause-place c =
     let l = c.args.tables.now.list in
-    stands_for_place l c.args.i c.index.result.now (read_at l.places.items c.args.i c.index.result.now c.requires.index c.index.ensures)
+    stands_for_place l c.args.i c.index-place.result.now (read_at l.places.items c.args.i c.index-place.result.now c.requires.index c.index-place.ensures)
 
 pub returns-clause-bound : goal.returns-clause-bound
 unfolding bound_of
@@ -20,13 +20,13 @@ returns-clause-bound c =
     let l = c.args.tables.now.list in
     let bs : List (Option ℕ) = c.bindings-bindings.result.now in
     let h : c.args.i < length bs = omega (arith, ap length c.bindings-bindings.ensures, many_bindings l, c.requires.index) in
-    bound_at l c.args.i c.index.result.now (stands_for_place l c.args.i c.index.result.now (read_at l.places.items c.args.i c.index.result.now c.requires.index c.index.ensures))
+    bound_at l c.args.i c.index-place.result.now (stands_for_place l c.args.i c.index-place.result.now (read_at l.places.items c.args.i c.index-place.result.now c.requires.index c.index-place.ensures))
     bs c.bindings-bindings.ensures h c.binding_at.result c.binding_at.ensures
 
 pub returns-clause-listed : goal.returns-clause-listed
-returns-clause-listed c = (c.args.i, c.requires.index, sym c.index.ensures)
+returns-clause-listed c = (c.args.i, c.requires.index, sym c.index-place.ensures)
 
 pub returns-clause-stands : goal.returns-clause-stands
 returns-clause-stands c =
     let l = c.args.tables.now.list in
-    (all_stand l c.requires.tables.bounded c.requires.tables.numbered).stands _ (c.args.i, c.requires.index, sym c.index.ensures)
+    (all_stand l c.requires.tables.bounded c.requires.tables.numbered).stands _ (c.args.i, c.requires.index, sym c.index-place.ensures)
