@@ -1,5 +1,5 @@
 -- A tree has a fault exactly where one is found.
-use Rattle.std.specs.Prelude.{◌≡◌, ℕ, Bool, true, false, ◌||◌, List, [], ◌∷◌, ◌++◌, map}
+use Rattle.std.specs.Prelude.{◌≡◌, ℕ, Bool, true, false, ◌||◌, List, [], ◌∷◌, ◌++◌}
 use Rattle.std.specs.List.{list_any}
 use Rattle.std.proofs.Common.{refl, sym, ap, ◌∙◌}
 use Rattle.std.proofs.lemmas.List.Folds.{list_any-append}
@@ -18,7 +18,7 @@ use Rattle.scope_tables.proofs.EachPlace.{faults_are}
 use Rattle.scope_tables.proofs.Resolutions.{one_of_five}
 use Rattle.scope_tables.specs.FaultsOf.{each_after, faults_of, place_faults}
 use Rattle.scope_tables.specs.declared.faults.Faults.{Faults}
-use Rattle.tree_nodes.specs.Tree.{Text, Tree, alone}
+use Rattle.tree_nodes.specs.Tree.{Text, alone}
 use Rattle.tree_places.specs.Places.{Place, places}
 
 is_found : Found → Bool

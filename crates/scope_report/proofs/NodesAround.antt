@@ -1,10 +1,9 @@
 -- Nodes that are listed, by their numbers.
-use Rattle.std.specs.Prelude.{◌≡◌, ℕ, List, map, Option, Some, None, option_map, slice_get}
+use Rattle.std.specs.Prelude.{◌≡◌, ℕ, map, Option, Some, None, option_map, slice_get}
 use Rattle.std.proofs.Common.{ap, refl, ◌∙◌}
 use Rattle.std.proofs.lemmas.Option.{slice_get-map}
-use Rattle.place_list.specs.Nodes.{NestedNode}
 use Rattle.place_list.specs.TableViews.{lists_in, nested_node_in, nested_nodes_in, node_view}
-use Rattle.place_list.specs.Tables.{NodeView, nested_node_of}
+use Rattle.place_list.specs.Tables.{nested_node_of}
 use Rattle.place_list.specs.declared.tables.NodeEntry.{NodeEntry}
 use Rattle.place_list.specs.declared.tables.PlaceList.{PlaceList}
 

@@ -2,10 +2,9 @@
 use Rattle.std.proofs.Common.{◌≡◌, ℕ, zero, suc, ◌+◌, ◌-◌, ◌^◌, ◌<◌, ◌≤◌, Bool, true, false, cond, inl, inr, List, [], ◌∷◌, ◌++◌, length, get_or, take, drop, replicate, slice_get, Some, refl, sym, ap, ◌∙◌, subst, arith}
 use Rattle.std.proofs.Math.Seq.{get_or-append_seam}
 use Rattle.std.proofs.Math.ListN.{get_or-append}
-use Rattle.std.proofs.lemmas.Bool.{cases_lt, cases_order, cond_both}
-use Rattle.std.proofs.lemmas.List.{append_assoc, get_or-append-add, length-append, length-drop, length-replicate, length-take-le, nil_from_length, take-append-drop}
-use Rattle.std.proofs.lemmas.Option.{slice_get_within}
-use Rattle.std.proofs.lemmas.Str.{IsCharBoundary-past_char, IsCharBoundary-start, IsUtf8-between, IsUtf8-drop, IsUtf8-past_char, drop_past_char, encode_same, len_utf8_bounds, length-encode}
+use Rattle.std.proofs.lemmas.Bool.{cases_lt, cases_order}
+use Rattle.std.proofs.lemmas.List.{append_assoc, get_or-append-add, length-append, length-drop, length-replicate, length-take-le, take-append-drop}
+use Rattle.std.proofs.lemmas.Str.{IsCharBoundary-past_char, IsCharBoundary-start, IsUtf8-between, IsUtf8-drop, drop_past_char, encode_same, len_utf8_bounds, length-encode}
 use Rattle.std.specs.Char.{len_utf8}
 use Rattle.std.specs.List.{count_by}
 use Rattle.std.specs.Str.{IsCharBoundary, IsUtf8, chars}

@@ -1,5 +1,5 @@
 -- Findings by line and column in the source text, and when there are none to tell.
-use Rattle.std.specs.Prelude.{ℕ, List, map}
+use Rattle.std.specs.Prelude.{List, map}
 use Rattle.std.specs.List.{Contains}
 use Rattle.std.specs.Str.{IsCharBoundary}
 use Rattle.oxc_data_structures.specs.Rope.{column_of, line_of}

@@ -1,5 +1,5 @@
 -- Which rules a place goes against.
-use Rattle.std.specs.Prelude.{◌≡◌, ℕ, Bool, false, not, ◌&&◌, ◌||◌, List, [], ◌∷◌, is_some}
+use Rattle.std.specs.Prelude.{ℕ, Bool, false, not, ◌&&◌, ◌||◌, List, [], ◌∷◌, is_some}
 use Rattle.std.specs.List.{list_any}
 use Rattle.place_list.specs.Nodes.{NestedNode}
 use Rattle.scope_report.specs.Exports.{is_exported}

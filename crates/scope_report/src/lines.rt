@@ -54,11 +54,7 @@ fn position_at(positions: &[Position], offset: u32) -> Position
 }
 
 // What is found, with its line and column.
-fn located(
-    alloc: Global,
-    one: &FoundAt<'_>,
-    position: Position,
-) -> Result<Finding, AllocError>
+fn located(alloc: Global, one: &FoundAt<'_>, position: Position) -> Result<Finding, AllocError>
     ensures { IfOk result (λ f. (text : Text) → position ≡ position_of text one.now.start → f ≡ located text (found_view one.now)) }
 {
     let name = TreeText::from_string(String::from_str(alloc, one.name)?);

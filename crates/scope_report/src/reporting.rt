@@ -15,11 +15,7 @@ use tree_core::Program;
 /// What a linter asks of a program: exactly its findings, by line and column in a source text of at most `u32::MAX`
 /// bytes, to which its spans belong. `BadSpan` comes exactly where a place that has a finding starts past the text
 /// or within a character.
-pub fn report(
-    alloc: Global,
-    program: &Program,
-    source_text: &str,
-) -> Result<Findings, ReportError>
+pub fn report(alloc: Global, program: &Program, source_text: &str) -> Result<Findings, ReportError>
     requires { length source_text.now < 2 ^ 32 }
     ensures findings { IfOk result (λ f. f ≡ spec.findings source_text.now program.now) }
     ensures spans { IfOk result (λ f. StartInText source_text.now (found_in program.now)) }

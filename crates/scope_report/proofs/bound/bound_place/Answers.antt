@@ -1,4 +1,4 @@
-use Rattle.std.specs.Prelude.{◌≡◌, ◌<◌, List, Option, length, ℕ}
+use Rattle.std.specs.Prelude.{◌<◌, List, Option, length, ℕ}
 use Rattle.std.proofs.Common.{ap, arith, sym}
 use Rattle.place_list.proofs.PlacesStand.{read_at, stands_for_place}
 use Rattle.scope_report.proofs.BoundPlaces.{bound_at, many_bindings}
