@@ -1,0 +1,22 @@
+use Rattle.std.specs.Prelude.{◌≤◌, length}
+use Rattle.std.specs.List.{list_any}
+use Rattle.std.proofs.Common.{ap, arith, take_all, ◌∙◌}
+use Rattle.place_list.specs.TableViews.{places_in}
+use Rattle.place_list.specs.TableViews.{nested_nodes_in}
+use Rattle.scope_report.specs.Exports.{exports}
+use Rattle.scope_report.proofs.BoundPlaces.{many_bound}
+use Rattle.scope_report.proofs.MarkedSets.{marked_more}
+use Rattle.scope_rules.specs.Bindings.{bound, same_name}
+use Rattle.scope_report.proofs.exported.exported_bindings.Goals as goal
+
+pub loop-i-preserved : goal.loop-i-preserved
+loop-i-preserved c = λ n.
+    let l = c.args.tables.now.list in
+    marked_more (exports (nested_nodes_in c.args.nodes.now) n) (bound same_name (places_in l)) c.loop-i.i _ c.bound_place-place.ensures.bound _ _ (c.loop-i.invariant n)
+    c.exported_binding.result n (c.exported_binding.ensures l n) (c.in_ok-put.ensures n)
+
+pub returns : goal.returns
+returns c = λ n.
+    let l = c.args.tables.now.list in
+    let over : length (bound same_name (places_in l)) ≤ c.loop-i.i = omega (arith, many_bound l) in
+    c.loop-i.invariant n ∙ ap (list_any (exports (nested_nodes_in c.args.nodes.now) n)) (take_all c.loop-i.i (bound same_name (places_in l)) over)
