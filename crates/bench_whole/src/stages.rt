@@ -24,6 +24,7 @@ use tree_rename::rename;
 
 // So many places are named at most, and a name has fewer bytes than this.
 const MOST_PLACES: usize = 1 << 30;
+
 const LONG: usize = 1 << 32;
 
 /// The answer to these bytes.
