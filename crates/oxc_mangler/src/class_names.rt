@@ -37,7 +37,12 @@ pub(crate) fn class_names<'t>(
     }
     for class_body in 0..count as u32 {
         names.push_class()?;
-        push_names(&mut names, table.private_names(class_body), numbers, class_body)?;
+        push_names(
+            &mut names,
+            table.private_names(class_body),
+            numbers,
+            class_body,
+        )?;
     }
     Ok(names)
 }

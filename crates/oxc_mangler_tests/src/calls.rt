@@ -38,13 +38,19 @@ fn an_analysis_is_named_twice(rt: HostRuntime) -> Result<(), Fail> {
     let program = program(alloc, SHADOWED, 0)?;
     let mut semantic = semantic(alloc, &program)?;
     let (names, count, busiest) = name(alloc, &mut semantic, USUAL)?;
-    assert!(rt; names.as_str() == "e e " && count == 1 && busiest == 1, "first");
+    assert!(rt;
+        names.as_str() == "e e " && count == 1 && busiest == 1,
+        "first"
+    );
     let kept = Asked {
         function: true,
         ..USUAL
     };
     let (names, count, busiest) = name(alloc, &mut semantic, kept)?;
-    assert!(rt; names.as_str() == "f e " && count == 1 && busiest == 1, "second");
+    assert!(rt;
+        names.as_str() == "f e " && count == 1 && busiest == 1,
+        "second"
+    );
     Ok(())
 }
 

@@ -32,7 +32,11 @@ pub(crate) const USUAL: Asked = Asked {
 };
 
 /// The options that ask this, where each character here is a reserved name.
-pub(crate) fn options(alloc: Global, asked: Asked, reserved: &str) -> Result<MangleOptions, AllocError> {
+pub(crate) fn options(
+    alloc: Global,
+    asked: Asked,
+    reserved: &str,
+) -> Result<MangleOptions, AllocError> {
     let mut options = MangleOptions::new(alloc);
     options.top_level = asked.top_level;
     options.keep_names.function = asked.function;
@@ -40,7 +44,9 @@ pub(crate) fn options(alloc: Global, asked: Asked, reserved: &str) -> Result<Man
     options.debug = asked.debug;
     for c in reserved.chars() {
         let name = format!(in alloc; "{c}")?;
-        options.reserved.insert(CompactStr::new(alloc, name.as_str())?)?;
+        options
+            .reserved
+            .insert(CompactStr::new(alloc, name.as_str())?)?;
     }
     Ok(options)
 }

@@ -20,7 +20,10 @@ fn symbols_get_names(rt: HostRuntime) -> Result<(), Fail> {
         (WITH, "f o a e "),
         (WRAPPED, "e t e t t "),
     ] {
-        assert!(rt; mangled(rt.alloc(), text, USUAL, "")?.as_str() == wanted, "{text}");
+        assert!(rt;
+            mangled(rt.alloc(), text, USUAL, "")?.as_str() == wanted,
+            "{text}"
+        );
     }
     Ok(())
 }

@@ -38,7 +38,10 @@ fn private_names_get_names(rt: HostRuntime) -> Result<(), Fail> {
         (OPEN, 0, "e", ""),
         (OPEN, 1, "y", "t"),
     ] {
-        assert!(rt; is_renamed(rt.alloc(), text, k, old, new)?, "{old} in {text}");
+        assert!(rt;
+            is_renamed(rt.alloc(), text, k, old, new)?,
+            "{old} in {text}"
+        );
     }
     Ok(())
 }

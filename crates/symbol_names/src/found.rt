@@ -49,12 +49,7 @@ pub fn symbol_names<A: Allocator + Copy>(
 {
     let new = new_names(alloc, sets, options, top_level, tables, private)?;
     let inline = inline_names(alloc, new.names.as_slice())?;
-    let names = names_by_symbol(
-        alloc,
-        tables,
-        new.choices.as_slice(),
-        inline.as_slice(),
-    )?;
+    let names = names_by_symbol(alloc, tables, new.choices.as_slice(), inline.as_slice())?;
     let busiest = busiest_scope(new.busiest, new.slots, tables.list.scopes.len())?;
     Ok(SymbolNames {
         names,

@@ -45,6 +45,11 @@ pub fn apply_names(
     let list = list_places(alloc, root)?;
     let given = find_given(alloc, &list, semantic, mappings)?;
     let copy = Program::from_root(root.try_clone(alloc)?);
-    let renamed = rename(alloc, copy, given.choices.as_slice(), given.names.as_slice())?;
+    let renamed = rename(
+        alloc,
+        copy,
+        given.choices.as_slice(),
+        given.names.as_slice(),
+    )?;
     Ok(renamed)
 }
