@@ -58,7 +58,10 @@ fn end(alloc: Global, text: &str) -> Result<&'static str, Fail> {
         symbols: 3,
         references: 1,
     };
-    match SemanticBuilder::new().with_stats(stats).build(alloc, &program) {
+    match SemanticBuilder::new()
+        .with_stats(stats)
+        .build(alloc, &program)
+    {
         Ok(_) => Ok("sound"),
         Err(SemanticError::BadScope) => Ok("bad scope"),
         Err(SemanticError::Memory) => Err(Fail::from("memory")),

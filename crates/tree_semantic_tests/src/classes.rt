@@ -29,7 +29,11 @@ fn private_name<'t>(classes: &Classes<'t>, k: usize, n: usize) -> Option<&'t str
         return None;
     }
     let names = classes.private_names(ClassId::from_usize(k));
-    if n < names.len() { Some(names[n].as_str()) } else { None }
+    if n < names.len() {
+        Some(names[n].as_str())
+    } else {
+        None
+    }
 }
 
 #[test]
@@ -38,7 +42,10 @@ fn classes_are_told(rt: HostRuntime) -> Result<(), Fail> {
     let semantic = semantic(rt.alloc(), &program)?;
     let classes = semantic.classes();
     assert!(rt; class_told(classes, 0) == Some((None, true)), "A");
-    assert!(rt; class_told(classes, 1) == Some((Some(0), true)), "the class in A");
+    assert!(rt;
+        class_told(classes, 1) == Some((Some(0), true)),
+        "the class in A"
+    );
     assert!(rt; class_told(classes, 2) == Some((None, false)), "C");
     assert!(rt; class_told(classes, 3).is_none());
     for (k, n, wanted) in [

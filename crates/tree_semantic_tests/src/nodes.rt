@@ -15,7 +15,12 @@ fn told(nodes: &AstNodes<'_>, n: usize) -> Option<(u8, u8, usize, usize)> {
     let id = NodeId::from_usize(n);
     let kind = nodes.kind(id).number();
     let same = nodes.node(id).kind.number();
-    Some((kind, same, nodes.parent_id(id).index(), nodes.scope_id(id).index()))
+    Some((
+        kind,
+        same,
+        nodes.parent_id(id).index(),
+        nodes.scope_id(id).index(),
+    ))
 }
 
 #[test]
@@ -43,7 +48,10 @@ fn nodes_are_told(rt: HostRuntime) -> Result<(), Fail> {
     for n in 0..16 {
         let (kind, parent, scope) = rows[n];
         let number = kind.number();
-        assert!(rt; told(semantic.nodes(), n) == Some((number, number, parent, scope)), "{n}");
+        assert!(rt;
+            told(semantic.nodes(), n) == Some((number, number, parent, scope)),
+            "{n}"
+        );
     }
     assert!(rt; told(semantic.nodes(), 16).is_none());
     Ok(())

@@ -20,7 +20,11 @@ fn told<'s>(scoping: &'s Scoping<'_>, k: usize) -> Option<(&'s str, usize, usize
     }
     let id = SymbolId::from_usize(k);
     let scope = scoping.symbol_scope_id(id).index();
-    Some((scoping.symbol_name(id), scope, scoping.symbol_declaration(id).index()))
+    Some((
+        scoping.symbol_name(id),
+        scope,
+        scoping.symbol_declaration(id).index(),
+    ))
 }
 
 #[test]
