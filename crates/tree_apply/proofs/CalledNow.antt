@@ -1,20 +1,21 @@
 -- The new names that are given are what places are called.
-use Rattle.std.specs.Prelude.{◌≡◌, ℕ, Bool, true, false, cond, List, map, Option, Some, None, IsTrue}
+use Rattle.std.specs.Prelude.{◌≡◌, ℕ, Bool, true, false, cond, List, map, slice_get, Option, Some, None, IfSome, IsTrue}
 use Rattle.std.specs.Option.{unwrap_or}
 use Rattle.std.proofs.Common.{refl, sym, ap, ◌∙◌, subst}
 use Rattle.list_laws.proofs.Mapped.{map_same}
 use Rattle.list_laws.proofs.Members.{In}
 use Rattle.list_laws.proofs.Tests.{none_some, some_one, tested}
 use Rattle.scope_rules.proofs.SameNames.{same_name_tells}
-use Rattle.scope_rules.specs.Bindings.{same_name}
+use Rattle.scope_rules.specs.Bindings.{node, same_name}
 use Rattle.scope_rules.specs.PrivateNames.{declaring_class}
-use Rattle.scope_rules.specs.Symbols.{symbol_of}
+use Rattle.scope_rules.specs.Symbols.{node_symbol, symbol_of, symbols}
 use Rattle.syntax_lex.specs.Identifier.{is_identifier_name}
-use Rattle.tree_apply.proofs.SymbolsOfPlaces.{plain_has_none, plain_is_public}
+use Rattle.tree_apply.proofs.SymbolsOfPlaces.{Symbol, class_of_node, plain_has_none, plain_is_public, symbol_of_node, symbol_told}
 use Rattle.tree_apply.specs.Applied.{applied, differing, new_of, private_new, symbol_new}
-use Rattle.tree_nodes.specs.Tree.{Text}
-use Rattle.tree_places.specs.Places.{Place}
+use Rattle.tree_nodes.specs.Tree.{Parts, Text}
+use Rattle.tree_places.specs.Places.{Place, places}
 use Rattle.tree_places.specs.Renaming.{is_plain}
+use Rattle.tree_semantic.specs.ClassBodies.{class_of_place, node_class}
 
 differs_or_not : (x y : Text) → unwrap_or (differing x y) y ≡ x
 unfolding differing
@@ -78,3 +79,32 @@ module _ (ps : List Place) (name : ℕ → Option Text) (private : ℕ → Text 
             (elim (symbol_of same_name ps p) as (λ _. Option Text) [ None ↦ None | Some k ↦ differing (unwrap_or (name k) p.name) p.name ]) ≡ Some x → IsTrue (is_identifier_name x)
         go true f = of_class (declaring_class ps p.name p.site.setting.classes) f
         go false f = of_symbol (symbol_of same_name ps p) f
+
+-- ---- the new name at a node
+
+module _ (t : Parts) (p : Place) (i : In p (places t)) where
+  pub private_there : (private : ℕ → Text → Option Text) (n : ℕ) → p.site.private ≡ true → p.site.node ≡ n → (c : Option ℕ) → c ≡ node_class (places t) n
+      → elim c as (λ _. Option Text) [ None ↦ None | Some d ↦ private d p.name ] ≡ private_new (places t) private p
+  unfolding private_new class_of_place node
+  private_there private n public at c e =
+      ap (λ (d : Option ℕ). elim d as (λ _. Option Text) [ None ↦ None | Some k ↦ private k p.name ])
+      (e ∙ ap (node_class (places t)) (sym at) ∙ class_of_node t p i ∙ ap (λ (b : Bool). cond b (declaring_class (places t) p.name p.site.setting.classes) None) public)
+
+  symbol_at : (n : ℕ) → p.site.node ≡ n → symbol_of same_name (places t) p ≡ node_symbol same_name (places t) n
+  unfolding node
+  symbol_at n at = sym (symbol_of_node t p i) ∙ ap (node_symbol same_name (places t)) at
+
+  pub symbol_there : (name : ℕ → Option Text) (n k : ℕ) (new old : Text) → p.site.node ≡ n → Some k ≡ node_symbol same_name (places t) n → IfSome (slice_get (symbols same_name (places t)) k) (λ b. new ≡ unwrap_or (name k) b.name) → p.name ≡ old
+      → differing new old ≡ symbol_new (places t) name p
+  unfolding symbol_new
+  symbol_there name n k new old at e told same =
+      let is : symbol_of same_name (places t) p ≡ Some k = symbol_at n at ∙ sym e in
+      let s : Symbol t p k = symbol_told t p i k is in
+      let named : new ≡ unwrap_or (name k) s.place.name = subst (λ (o : Option Place). IfSome o (λ b. new ≡ unwrap_or (name k) b.name)) s.at told in
+      ap (λ (x : Text). differing x old) (named ∙ ap (unwrap_or (name k)) s.named)
+      ∙ ap (differing (unwrap_or (name k) p.name)) (sym same)
+      ∙ sym (ap (λ (o : Option ℕ). elim o as (λ _. Option Text) [ None ↦ None | Some j ↦ differing (unwrap_or (name j) p.name) p.name ]) is)
+
+  pub none_there : (name : ℕ → Option Text) (n : ℕ) → p.site.node ≡ n → None ≡ node_symbol same_name (places t) n → None ≡ symbol_new (places t) name p
+  unfolding symbol_new
+  none_there name n at e = sym (ap (λ (o : Option ℕ). elim o as (λ _. Option Text) [ None ↦ None | Some j ↦ differing (unwrap_or (name j) p.name) p.name ]) (symbol_at n at ∙ sym e))

@@ -1,11 +1,12 @@
 -- New names, some of which are none, numbered one place after another.
-use Rattle.std.specs.Prelude.{◌≡◌, ◌⊎◌, ◌<◌, ℕ, zero, suc, ◌+◌, Bool, true, false, not, ◌&&◌, ◌||◌, List, [], ◌∷◌, ◌++◌, length, map, take, slice_get, Option, Some, None, is_some, IsTrue, String, string_bytes}
+use Rattle.std.specs.Prelude.{◌≡◌, ◌⊎◌, ◌<◌, ℕ, zero, suc, ◌+◌, Bool, true, false, not, ◌&&◌, ◌||◌, List, [], ◌∷◌, ◌++◌, length, map, take, slice_get, Option, Some, None, option_map, IsTrue, String, string_bytes}
 use Rattle.std.specs.List.{AllByRecursion}
 use Rattle.std.specs.Option.{unwrap_or}
 use Rattle.std.proofs.Common.{refl, sym, ap, ◌∙◌, subst, arith, inl, inr, append_assoc}
-use Rattle.std.proofs.lemmas.List.{length-append, length-map, map-append}
+use Rattle.std.proofs.lemmas.List.{append-nil, length-append, map-append}
 use Rattle.kept_names.proofs.BoundPlaces.{take_read}
 use Rattle.list_laws.proofs.Members.{In}
+use Rattle.list_laws.proofs.Tests.{none_some, tested}
 use Rattle.syntax_lex.specs.Identifier.{is_identifier_name}
 use Rattle.tree_apply.specs.Applied.{numbered, taken}
 use Rattle.tree_nodes.specs.Tree.{Parts, Text}
@@ -46,6 +47,29 @@ module _ (f : Place → Option Text) (ps : List Place) (i : ℕ) (p : Place) (at
       ∙ ap (λ (q : Option Text). numbered 0 (map f (take i ps)) ++ numbered (0 + length (taken (map f (take i ps)))) (q ∷ [])) e
       ∙ sym (ap (numbered 0) one_more ∙ numbered_push 0 (map f (take i ps)) (f p))
 
+-- one that is put, and none
+pub put_some : {Z : Type 0} (old new : List (Option ℕ)) (many : ℕ) (o : Option (String Z)) (x : String Z) → o ≡ Some x → new ≡ old ++ Some many ∷ [] → new ≡ old ++ numbered many (option_map string_bytes o ∷ [])
+unfolding numbered
+put_some {Z} old new many o x e put = put ∙ sym (ap (λ (q : Option (String Z)). old ++ numbered many (option_map string_bytes q ∷ [])) e)
+
+pub name_put : {Z : Type 0} (old new : List (String Z)) (o : Option (String Z)) (x : String Z) → o ≡ Some x → new ≡ old ++ x ∷ [] → map string_bytes new ≡ map string_bytes old ++ taken (option_map string_bytes o ∷ [])
+unfolding taken
+name_put {Z} old new o x e put =
+    ap (λ (ss : List (String Z)). map string_bytes ss) put
+    ∙ map-append string_bytes old (x ∷ [])
+    ∙ sym (ap (λ (q : Option (String Z)). map string_bytes old ++ taken (option_map string_bytes q ∷ [])) e)
+
+pub put_none : {Z : Type 0} (old new : List (Option ℕ)) (many : ℕ) (o : Option (String Z)) → o ≡ None → new ≡ old ++ None ∷ [] → new ≡ old ++ numbered many (option_map string_bytes o ∷ [])
+unfolding numbered
+put_none {Z} old new many o e put = put ∙ sym (ap (λ (q : Option (String Z)). old ++ numbered many (option_map string_bytes q ∷ [])) e)
+
+pub none_named : {Z : Type 0} (old new : List (String Z)) (o : Option (String Z)) → o ≡ None → new ≡ old → map string_bytes new ≡ map string_bytes old ++ taken (option_map string_bytes o ∷ [])
+unfolding taken
+none_named {Z} old new o e same =
+    ap (λ (ss : List (String Z)). map string_bytes ss) same
+    ∙ sym (append-nil (map string_bytes old))
+    ∙ sym (ap (λ (q : Option (String Z)). map string_bytes old ++ taken (option_map string_bytes q ∷ [])) e)
+
 -- ---- what they choose
 
 there : {X : Type 0} (xs ys : List X) (y : X) → slice_get (xs ++ y ∷ ys) (length xs) ≡ Some y
@@ -77,18 +101,22 @@ chosen_given f (p ∷ ps) before = go (f p) (chosen_given f ps before) (λ x. ch
         ∙ ap (λ (n : ℕ). chosen ((before ++ x ∷ []) ++ taken rest) (numbered n rest) old) (let l : length (before ++ x ∷ []) ≡ length before + 1 = length-append before (x ∷ []) in let m : suc (length before) ≡ length (before ++ x ∷ []) = omega (arith, l) in m)
         ∙ later x)
 
+or_true : (b : Bool) → (b || true) ≡ true
+or_true true = refl
+or_true false = refl
+
 -- no plain name is chosen for
 pub plain_spared : (f : Place → Option Text) (ps : List Place) (n : ℕ) → ((p : Place) → is_plain p.site ≡ true → f p ≡ None) → spare_plain (map (λ (p : Place). p.site) ps) (numbered n (map f ps)) ≡ true
 unfolding spare_plain numbered
 plain_spared f [] n h = refl
-plain_spared f (p ∷ ps) n h = go (is_plain p.site) (f p) (h p) (plain_spared f ps n h) (plain_spared f ps (suc n) h)
+plain_spared f (p ∷ ps) n h = go (f p) (h p) (plain_spared f ps n h) (plain_spared f ps (suc n) h)
   where
-    go : (b : Bool) (o : Option Text) → (b ≡ true → o ≡ None) → spare_plain (map (λ (q : Place). q.site) ps) (numbered n (map f ps)) ≡ true → spare_plain (map (λ (q : Place). q.site) ps) (numbered (suc n) (map f ps)) ≡ true
-        → elim (numbered n (o ∷ map f ps)) as (λ _. Bool) [ [] ↦ true | c ∷ cs ↦ (not b || not (is_some c)) && spare_plain (map (λ (q : Place). q.site) ps) cs ] ≡ true
-    go true None g here later = here
-    go false None g here later = here
-    go true (Some x) g here later = absurd (let e : Some x ≡ None = g refl in cc)
-    go false (Some x) g here later = later
+    ss : List Site
+    ss = map (λ (q : Place). q.site) ps
+
+    go : (o : Option Text) → (is_plain p.site ≡ true → o ≡ None) → spare_plain ss (numbered n (map f ps)) ≡ true → spare_plain ss (numbered (suc n) (map f ps)) ≡ true → spare_plain (p.site ∷ ss) (numbered n (o ∷ map f ps)) ≡ true
+    go None g here later = ap (λ (c : Bool). c && spare_plain ss (numbered n (map f ps))) (or_true (not (is_plain p.site))) ∙ here
+    go (Some x) g here later = tested (is_plain p.site) (λ t. absurd (none_some x (sym (g t)))) (λ t. ap (λ (c : Bool). (not c || false) && spare_plain ss (numbered (suc n) (map f ps))) t ∙ later)
 
 -- each of them is one of the new names
 from_taken : (os : List (Option Text)) (x : Text) → In x (taken os) → In (Some x) os

@@ -3,6 +3,7 @@ use Rattle.std.specs.Prelude.{◌≡◌, ◌⊎◌, ◌<◌, ℕ, zero, suc, Boo
 use Rattle.std.specs.List.{Contains}
 use Rattle.std.proofs.Common.{refl, sym, ap, ◌∙◌, subst, arith, inl, inr}
 use Rattle.std.proofs.lemmas.Bool.{and_parts, both_ways, eq-eqb, eqb-true}
+use Rattle.std.proofs.lemmas.Option.{slice_get_within}
 use Rattle.list_laws.proofs.FirstOf.{find_only}
 use Rattle.list_laws.proofs.Members.{In, from_filter, in_filter, in_from_Contains}
 use Rattle.list_laws.proofs.Tests.{none_some, some_one, tested, told}
@@ -90,6 +91,21 @@ symbol_told t p i k e = told (binding same_name (places t) p)
 its_own : (n : ℕ) → is_node (Some n) n ≡ true
 unfolding is_node
 its_own n = eq-eqb n n refl
+
+-- the number of a node's symbol is below their number
+pub symbol_below : (ps : List Place) (n k : ℕ) → node_symbol same_name ps n ≡ Some k → k < length (symbols same_name ps)
+unfolding node_symbol symbol_of
+symbol_below ps n k e = told (find (λ (q : Place). nat_eq (node q) n) ps)
+    (λ none. absurd (none_some k (sym (ap of_place none) ∙ e)))
+    (λ p some. told (binding same_name ps p)
+    (λ none. absurd (none_some k (sym (ap of_place some ∙ ap of_binding none) ∙ e)))
+    (λ m bound. let r = number_reads (symbols same_name ps) m k (sym (ap of_place some ∙ ap of_binding bound) ∙ e) in slice_get_within (symbols same_name ps) k r.0 r.1))
+  where
+    of_binding : Option ℕ → Option ℕ
+    of_binding o = elim o as (λ _. Option ℕ) [ None ↦ None | Some m ↦ number_among (symbols same_name ps) m ]
+
+    of_place : Option Place → Option ℕ
+    of_place o = elim o as (λ _. Option ℕ) [ None ↦ None | Some p ↦ of_binding (binding same_name ps p) ]
 
 -- a place without a symbol has no binding
 pub no_symbol : (t : Parts) (p : Place) → In p (places t) → symbol_of same_name (places t) p ≡ None → binding same_name (places t) p ≡ None
