@@ -1,12 +1,12 @@
 -- A program under the names that the mangler has set is mangled.
-use Rattle.std.specs.Prelude.{◌≡◌, ◌⊎◌, ◌++◌, ℕ, Bool, true, false, cond, ◌||◌, List, [], ◌∷◌, map, get_or, Option, Some, None, option_map, IsTrue, IsFalse}
+use Rattle.std.specs.Prelude.{◌≡◌, ℕ, Bool, true, false, cond, ◌||◌, List, [], ◌∷◌, map, get_or, Option, Some, None, option_map, IsTrue, IsFalse}
 use Rattle.std.specs.List.{Contains}
 use Rattle.std.specs.Option.{unwrap_or}
 use Rattle.std.proofs.Common.{refl, sym, ap, ◌∙◌, subst}
 use Rattle.std.proofs.lemmas.Bool.{or_parts, or_right}
 use Rattle.list_laws.proofs.Mapped.{map_same}
 use Rattle.list_laws.proofs.Members.{In, contains_from_in}
-use Rattle.list_laws.proofs.Tests.{none_some, some_one, tested, told}
+use Rattle.list_laws.proofs.Tests.{none_some, some_one, tested}
 use Rattle.name_rules.proofs.Mangling as mangling
 use Rattle.name_rules.specs.GivenNames.{names_of_slots}
 use Rattle.name_rules.specs.Groups.{group_at}
@@ -18,7 +18,6 @@ use Rattle.name_rules.specs.PrivateNumbers.{index_of, new_names, new_private_nam
 use Rattle.name_rules.specs.ShortNames.{short}
 use Rattle.name_rules.specs.SlotNames.{group_in, named_by_slot, slot_in}
 use Rattle.name_rules.specs.Slots.{slot_of, slots_of}
-use Rattle.oxc_mangler.specs.ClassNames.{AreClassNames}
 use Rattle.program_laws.proofs.Programs.{programs_are_rooted}
 use Rattle.scope_rules.specs.Bindings.{binding, bound, same_name}
 use Rattle.scope_rules.specs.Evals.{is_open}
@@ -32,9 +31,9 @@ use Rattle.tree_apply.specs.Applied.{applied}
 use Rattle.tree_core.specs.Program.{IsProgram}
 use Rattle.tree_nodes.specs.Tree.{Parts, Text, Tree, alone}
 use Rattle.tree_places.proofs.Outwards.{inside_refl}
-use Rattle.tree_places.specs.Places.{Place, names, places, seen, withs}
+use Rattle.tree_places.specs.Places.{Place, names, places, withs}
 use Rattle.tree_places.specs.Renaming.{IsRenamed}
-use Rattle.tree_places.specs.Scopes.{is_inside, same_scope}
+use Rattle.tree_places.specs.Scopes.{is_inside}
 
 -- ---- places of symbols
 

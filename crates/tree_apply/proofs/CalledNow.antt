@@ -4,7 +4,7 @@ use Rattle.std.specs.Option.{unwrap_or}
 use Rattle.std.proofs.Common.{refl, sym, ap, ◌∙◌, subst}
 use Rattle.list_laws.proofs.Mapped.{map_same}
 use Rattle.list_laws.proofs.Members.{In}
-use Rattle.list_laws.proofs.Tests.{none_some, some_one, tested}
+use Rattle.list_laws.proofs.Tests.{none_some, tested}
 use Rattle.scope_rules.proofs.SameNames.{same_name_tells}
 use Rattle.scope_rules.specs.Bindings.{node, same_name}
 use Rattle.scope_rules.specs.PrivateNames.{declaring_class}

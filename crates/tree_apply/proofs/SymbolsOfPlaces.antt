@@ -1,12 +1,11 @@
 -- The symbol of a place: its name is the place's, and it is bound alike.
-use Rattle.std.specs.Prelude.{◌≡◌, ◌⊎◌, ◌<◌, ℕ, zero, suc, Bool, true, false, not, ◌&&◌, nat_eq, List, [], ◌∷◌, filter, find, length, slice_get, Option, Some, None, is_some, option_map, if◌then◌else◌}
-use Rattle.std.specs.List.{Contains}
-use Rattle.std.proofs.Common.{refl, sym, ap, ◌∙◌, subst, arith, inl, inr}
+use Rattle.std.specs.Prelude.{◌≡◌, ◌⊎◌, ◌<◌, ℕ, suc, Bool, true, false, not, ◌&&◌, nat_eq, List, [], ◌∷◌, find, length, slice_get, Option, Some, None, option_map, if◌then◌else◌}
+use Rattle.std.proofs.Common.{refl, sym, ap, ◌∙◌, subst, inl, inr}
 use Rattle.std.proofs.lemmas.Bool.{and_parts, both_ways, eq-eqb, eqb-true}
 use Rattle.std.proofs.lemmas.Option.{slice_get_within}
 use Rattle.list_laws.proofs.FirstOf.{find_only}
 use Rattle.list_laws.proofs.Members.{In, from_filter, in_filter, in_from_Contains}
-use Rattle.list_laws.proofs.Tests.{none_some, some_one, tested, told}
+use Rattle.list_laws.proofs.Tests.{none_some, some_one, told}
 use Rattle.scope_rules.proofs.BindingsStay.{binding_source}
 use Rattle.scope_rules.proofs.PlacesRise.{one_of_number}
 use Rattle.scope_rules.proofs.SameNames.{same_name_tells}

@@ -1,4 +1,4 @@
-use Rattle.std.specs.Prelude.{◌≡◌, ◌++◌, ℕ, List, [], IsTrue, Option, map, string_bytes}
+use Rattle.std.specs.Prelude.{List, [], IsTrue, Option, map, string_bytes}
 use Rattle.std.specs.List.{AllByRecursion}
 use Rattle.std.proofs.Common.{Global, String, ap, subst, sym, ◌∙◌}
 use Rattle.symbol_names.proofs.SymbolsNamed.{names_of_places}
@@ -6,8 +6,8 @@ use Rattle.tree_apply.proofs.AppliedMangles.{applied_mangles}
 use Rattle.tree_apply.proofs.CalledNow.{all_called, new_identifier, plain_stays}
 use Rattle.syntax_lex.specs.Identifier.{is_identifier_name}
 use Rattle.tree_apply.proofs.GivenInTurn.{chosen_given, each_identifier, plain_spared, sites_of_places}
-use Rattle.tree_apply.specs.Applied.{HasFewBytes, applied, new_of, numbered, taken}
-use Rattle.tree_nodes.specs.Tree.{Parts, Text, alone}
+use Rattle.tree_apply.specs.Applied.{HasFewBytes, new_of, numbered, taken}
+use Rattle.tree_nodes.specs.Tree.{Text, alone}
 use Rattle.tree_places.specs.Chosen.{chosen, spare_plain}
 use Rattle.tree_places.specs.Places.{Place, names, places, sites}
 use Rattle.tree_places.specs.Renaming.{IsRenamed}

@@ -1,6 +1,6 @@
-use Rattle.std.specs.Prelude.{◌≡◌, ◌≤◌, ◌<◌, ℕ, List, Option, length, map, option_map, slice_get, string_bytes, take, Some}
+use Rattle.std.specs.Prelude.{◌≡◌, ℕ, List, Option, length, map, option_map, slice_get, string_bytes, Some}
 use Rattle.std.specs.List.{AllByRecursion, Contains}
-use Rattle.std.proofs.Common.{Global, String, ap, arith, refl, subst, sym, take_all, ◌∙◌}
+use Rattle.std.proofs.Common.{Global, String, ap, arith, subst, sym, take_all, ◌∙◌}
 use Rattle.std.proofs.lemmas.List.{length-map}
 use Rattle.std.proofs.lemmas.Option.{get_or_from_slice_get, slice_get_within}
 use Rattle.kept_names.proofs.BoundPlaces.{many_places}

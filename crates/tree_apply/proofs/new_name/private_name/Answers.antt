@@ -1,11 +1,10 @@
-use Rattle.std.specs.Prelude.{List, Option, None, Some, option_map}
+use Rattle.std.specs.Prelude.{None, Some}
 use Rattle.std.proofs.Common.{ap, subst, sym, ◌∙◌}
 use Rattle.std.proofs.lemmas.Result.{IfOk-weaker}
 use Rattle.list_laws.proofs.Members.{in_from_Contains}
 use Rattle.syntax_sem.specs.ClassId as class_id
 use Rattle.syntax_sem.specs.NodeId as node_id
 use Rattle.tree_apply.proofs.CalledNow.{private_there}
-use Rattle.tree_nodes.specs.Tree.{Text}
 use Rattle.tree_places.specs.Places.{places, seen}
 use Rattle.tree_semantic.specs.ClassBodies.{AreClassesOf}
 use Rattle.tree_semantic.specs.Renamed.{new_name}
