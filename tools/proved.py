@@ -36,7 +36,7 @@ IN_WORDS = {
     "syntax_sem": "ClassId ElementId NodeId RedeclarationId ReferenceId ScopeId SymbolId SemanticId GetNodeId "
     "ElementKind NodeFlags ReferenceFlags ScopeFlags SymbolFlags Reference Span",
     "tree_nodes": "Field",
-    "mangle_tool": "Source Sink",
+    "tool_outside": "Source Sink Work",
 }
 # and these are public for the crates above alone, whose claims stand on them.
 HELPERS = {

@@ -57,25 +57,6 @@ answer_to_input a input t text read answer = record {
   answer = answer_to_value a read.value t text read.within read.is_tree answer;
 }
 
--- where the same is asked of each tree, an answer is one to both
-answers_agree : (a b : Asked) (value : Data) (text : List ℕ) → ((t : Tree) → a.options t ≡ b.options t) → a.reserved ≡ b.reserved → a.layout ≡ b.layout
-    → IsAnswerTo a value text → IsAnswerTo b value text
-answers_agree a b value text options reserved layout x = record {
-  tree = x.tree;
-  within = subst (λ (n : ℕ). is_too_large value n ≡ false) reserved x.within;
-  is_tree = x.is_tree;
-  answer = subst (λ (l : Layout). IsTreeAnswer (b.options x.tree) l x.tree text) layout
-      (subst (λ (o : Options). IsTreeAnswer o a.layout x.tree text) (options x.tree) x.answer);
-}
-
-pub same_answer : (a b : Asked) (input text : List ℕ) → ((t : Tree) → a.options t ≡ b.options t) → a.reserved ≡ b.reserved → a.layout ≡ b.layout
-    → IsAnswer a input text → IsAnswer b input text
-same_answer a b input text options reserved layout x = record {
-  value = x.value;
-  parses = x.parses;
-  answer = answers_agree a b x.value text options reserved layout x.answer;
-}
-
 -- ---- errors
 
 -- of the program in a value

@@ -1,5 +1,3 @@
--- bytes that are told, over several calls
-pub mod ToldBytes
 -- a program within a value
 pub mod WrappedWithin
 -- a program under its new names
@@ -7,3 +5,7 @@ pub mod Mangles
 pub mod ShortTexts
 -- what is written of it
 pub mod Answers
+-- by options, words and ends
+pub mod Settings
+pub mod MadeInputs
+pub mod Ends

@@ -5,7 +5,7 @@ use Rattle.std.proofs.lemmas.Bool.{or_parts}
 use Rattle.std.proofs.lemmas.List.{length-append, length-map}
 use Rattle.mangle_options.specs.Settings.{options_in, reserved_in}
 use Rattle.mangle_options.specs.declared.options.MangleOptions.{MangleOptions}
-use Rattle.mangle_tool.specs.Mangling.{IsMangling, IsSound, options_for, options_with, usual_options}
+use Rattle.mangle_tool.specs.Mangling.{IsMangling, IsSound, options_for}
 use Rattle.name_rules.proofs.Mangling as mangling
 use Rattle.name_rules.specs.ChosenNames.{AreChosen}
 use Rattle.name_rules.specs.MangledLaws.{HasNewNames}
@@ -71,21 +71,6 @@ few_places t reserved few l is =
 pub few_asked : (o : MangleOptions) (t : Tree) → node_count t + length (reserved_in o) < 2 ^ 30 → node_count t + length (options_for o t).reserved < 2 ^ 30
 unfolding options_in
 few_asked o t h = h
-
--- options by their settings
-pub options_told : (o : MangleOptions) (root : Bool) → o.keep_names.function ≡ false → o.keep_names.class ≡ false → reserved_in o ≡ [] → o.debug ≡ false
-    → options_in o root ≡ options_with root
-unfolding options_in
-options_told o root a b c d =
-    ap (λ x. record { top_level = root; keep_functions = x; keep_classes = o.keep_names.class; reserved = reserved_in o; readable = o.debug }) a
-    ∙ ap (λ x. record { top_level = root; keep_functions = false; keep_classes = x; reserved = reserved_in o; readable = o.debug }) b
-    ∙ ap (λ x. record { top_level = root; keep_functions = false; keep_classes = false; reserved = x; readable = o.debug }) c
-    ∙ ap (λ x. record { top_level = root; keep_functions = false; keep_classes = false; reserved = []; readable = x }) d
-
--- the default options ask of each tree what a run asks
-pub usual_told : (o : MangleOptions) → o.top_level ≡ None → o.keep_names.function ≡ false → o.keep_names.class ≡ false → reserved_in o ≡ [] → o.debug ≡ false
-    → (t : Tree) → options_for o t ≡ usual_options t
-usual_told o top a b c d t = options_told o (renames_root o.top_level (alone t)) a b c d ∙ ap (λ (asked : Option Bool). options_with (renames_root asked (alone t))) top
 
 -- the root of a program is renamed as asked, else by its source type
 root_told : (asked : Option Bool) (t : Tree) → unwrap_or asked (not (nat_eq (word_of (part t.fields 1)) 0)) ≡ renames_root asked (alone t)

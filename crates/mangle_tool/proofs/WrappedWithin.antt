@@ -54,6 +54,10 @@ within_object ms node more w h =
     let few : nat_le (2 ^ 30) (objects_in node + more) ≡ false = (let whole = both.0 in let less = w.objects in grind (arith, nat_tests, whole, less)) in
     rw few (w.short both.1)
 
+-- a member of an object
+pub member_within : (key : List ℕ) (ms : Members) (node : Data) (more : ℕ) → get_member key ms ≡ Some node → is_too_large (object ms) more ≡ false → is_too_large node more ≡ false
+member_within key ms node more h whole = within_object ms node more (found_within key ms node h) whole
+
 pub wrapped_within : (d node : Data) (more : ℕ) → wrapped_program d ≡ Some node → is_too_large d more ≡ false → is_too_large node more ≡ false
 wrapped_within null node more h whole = none_some node h
 wrapped_within (boolean b) node more h whole = none_some node h

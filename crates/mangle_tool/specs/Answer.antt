@@ -78,11 +78,11 @@ pub record IsReadFrom (reserved : ℕ) (input : List ℕ) (tree : Tree) : Type 0
   pub within : is_too_large value reserved ≡ false
   pub is_tree : tree_in value ≡ Some tree
 
--- the input is JSON whose value is valid, with no reserved names
-pub record IsValidInput (input : List ℕ) : Type 0 where
+-- the input is JSON whose value is valid
+pub record IsValidInput (reserved : ℕ) (input : List ℕ) : Type 0 where
   pub value : Data
   pub parses : Parses input value
-  pub valid : IsValid 0 value
+  pub valid : IsValid reserved value
 
 -- the input is JSON, and the text is the answer to its value, as it is asked for
 pub record IsAnswer (a : Asked) (input text : List ℕ) : Type 0 where

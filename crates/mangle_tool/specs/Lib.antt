@@ -1,15 +1,8 @@
 pub mod Answer
 pub mod Asked
-pub mod Failures
 pub mod Input
+pub mod Make
 pub mod Mangling
-pub mod MemorySink
-pub mod MemorySource
 pub mod Output
-pub mod ReaderSource
 pub mod Run
-pub mod Sink
-pub mod SliceSource
-pub mod Source
 pub mod Status
-pub mod WriterSink

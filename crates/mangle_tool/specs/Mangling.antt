@@ -1,5 +1,5 @@
 -- What a call does to the program that it read.
-use Rattle.std.specs.Prelude.{◌≡◌, Bool, false, [], None, Option, IsFalse, IsTrue}
+use Rattle.std.specs.Prelude.{◌≡◌, Option, IsFalse, IsTrue}
 use Rattle.mangle_options.specs.Settings.{options_in}
 use Rattle.mangle_options.specs.declared.options.MangleOptions.{MangleOptions}
 use Rattle.name_rules.specs.Mangled.{IsMangled}
@@ -22,14 +22,6 @@ tree_in value = tree_of (json_of (program_in value))
 -- what the options of a call ask of a tree
 abbrev pub options_for : MangleOptions → Tree → Options
 options_for o t = options_in o (renames_root o.top_level (alone t))
-
--- a run gives new names to all bindings that need not keep theirs, those of the root if it may, and keeps no name of a function or class for its own sake
-abbrev pub options_with : (renames_root : Bool) → Options
-options_with root = record { top_level = root; keep_functions = false; keep_classes = false; reserved = []; readable = false }
-
--- a script shares its root with others, so names there stay
-abbrev pub usual_options : Tree → Options
-usual_options t = options_with (renames_root None (alone t))
 
 -- the scopes of the tree have a fault
 abbrev pub IsFaulty : Tree → Type 0

@@ -2,8 +2,10 @@
 use Rattle.std.specs.Prelude.{ℕ, List, codes}
 use Rattle.mangle_tool.specs.declared.status.Status.{Status}
 use Rattle.mangle_tool.specs.declared.status.Status.TheVariants.{Done, BadArgument, NotJson, TooLarge, BadTree, BadScope, InputTooLong, ReadFault, WriteFault, Memory}
-use Rattle.mangle_tool.specs.declared.read_all.ReadAllError.{ReadAllError}
-use Rattle.mangle_tool.specs.declared.read_all.ReadAllError.TheVariants.{Failed, TooLong, Memory as OutOfMemory}
+use Rattle.tool_outside.specs.declared.read_all.ReadAllError.{ReadAllError}
+use Rattle.tool_outside.specs.declared.read_all.ReadAllError.TheVariants.{Failed, TooLong, Memory as OutOfMemory}
+use Rattle.tool_words.specs.declared.command.WordError.{WordError}
+use Rattle.tool_words.specs.declared.command.WordError.TheVariants as word
 
 -- the exit code
 abbrev pub number_of : Status → ℕ
@@ -36,3 +38,8 @@ abbrev pub read_status : ReadAllError → Status
 read_status Failed = ReadFault
 read_status TooLong = InputTooLong
 read_status OutOfMemory = Memory
+
+-- how a run ends whose words ask for nothing
+abbrev pub word_status : WordError → Status
+word_status word.BadArgument = BadArgument
+word_status word.Memory = Memory

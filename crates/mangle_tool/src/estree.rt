@@ -7,6 +7,8 @@ mod layout;
 
 pub use answer::{mangle_estree, mangle_value};
 pub use error::MangleError;
-pub use layout::Layout;
+pub use input::program_of;
+pub use layout::text_in;
 pub use mangle_options::{MangleOptions, MangleOptionsKeepNames};
 pub use oxc_str::CompactStr;
+pub use tool_words::Layout;

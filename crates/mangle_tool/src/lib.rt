@@ -1,15 +1,14 @@
-//! The mangler as a tool: where its input comes from, what it does with it, where the answer goes, and how a
-//! run ends.
+//! The mangler as a tool: what its words ask for, where its input comes from, what it does with it, where the
+//! answer goes, and how a run ends.
 #![tactic(auto)]
 
-pub mod adapters;
+mod answering;
 pub mod estree;
-mod failures;
+mod make;
 mod mangle;
-pub mod memory;
-pub mod read_all;
 pub mod run;
-pub mod sink;
-pub mod source;
 pub mod status;
-pub mod write_whole;
+
+pub use mangle::mangle_program;
+pub use tool_outside::{adapters, memory, read_all, sink, source, write_whole};
+pub use tool_words as words;

@@ -1,9 +1,14 @@
 //! How a run of the program ends.
 
 ghost use Rattle.std.specs.Prelude.{◌≡◌};
-ghost use Rattle.mangle_tool.specs.Status.{line_of, number_of, read_status};
+ghost use Rattle.mangle_tool.specs.Answer.{refused_status};
+ghost use Rattle.mangle_tool.specs.Run.{ended};
+ghost use Rattle.mangle_tool.specs.Status.{line_of, number_of, read_status, word_status};
 
+use crate::estree::MangleError;
 use crate::read_all::ReadAllError;
+use tool_outside::work::Outcome;
+use tool_words::WordError;
 
 /// How a run ended.
 #[derive(Clone, Copy, Debug, PartialEq, Eq)]
@@ -58,6 +63,44 @@ impl From<ReadAllError> for Status {
             ReadAllError::Failed => Status::ReadFault,
             ReadAllError::TooLong => Status::InputTooLong,
             ReadAllError::Memory => Status::Memory,
+        }
+    }
+}
+
+impl From<WordError> for Status {
+    ghost from_gives = { λ error status. status ≡ word_status error };
+
+    fn from(error: WordError) -> Self {
+        match error {
+            WordError::BadArgument => Status::BadArgument,
+            WordError::Memory => Status::Memory,
+        }
+    }
+}
+
+impl From<MangleError> for Status {
+    ghost from_gives = { λ error status. status ≡ refused_status error };
+
+    fn from(error: MangleError) -> Self {
+        match error {
+            MangleError::NotJson => Status::NotJson,
+            MangleError::TooLarge => Status::TooLarge,
+            MangleError::BadTree => Status::BadTree,
+            MangleError::BadScope => Status::BadScope,
+            MangleError::Memory => Status::Memory,
+        }
+    }
+}
+
+impl From<Outcome<MangleError>> for Status {
+    ghost from_gives = { λ outcome status. status ≡ ended outcome };
+
+    fn from(outcome: Outcome<MangleError>) -> Self {
+        match outcome {
+            Outcome::Done => Status::Done,
+            Outcome::Unread(error) => Status::from(error),
+            Outcome::Refused(error) => Status::from(error),
+            Outcome::Unwritten => Status::WriteFault,
         }
     }
 }

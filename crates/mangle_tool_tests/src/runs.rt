@@ -15,7 +15,7 @@ const TWICE_DECLARED: &str =
 fn ends_as(alloc: Global, input: &str, status: Status, written: &str) -> Result<bool, AllocError> {
     let mut source = SliceSource::new(input.as_bytes());
     let mut sink = MemorySink::with_room(alloc, 106, 106, &[])?;
-    let ended = run(alloc, &mut source, &mut sink);
+    let ended = run(alloc, &[], &mut source, &mut sink);
     Ok(ended == status && sink.bytes() == written.as_bytes())
 }
 
@@ -37,7 +37,7 @@ fn end_by_read(alloc: Global, call: u64) -> Result<Option<Status>, AllocError> {
     let fails = [call];
     let mut source = MemorySource::new(EMPTY_MODULE.as_bytes(), 8, &fails);
     let mut sink = MemorySink::with_room(alloc, 106, 106, &[])?;
-    let ended = run(alloc, &mut source, &mut sink);
+    let ended = run(alloc, &[], &mut source, &mut sink);
     Ok(sink.bytes().is_empty().then_some(ended))
 }
 
@@ -62,7 +62,7 @@ fn ends_by_write(
     let fails = [call];
     let mut source = SliceSource::new(EMPTY_MODULE.as_bytes());
     let mut sink = MemorySink::with_room(alloc, room, 16, &fails)?;
-    let ended = run(alloc, &mut source, &mut sink);
+    let ended = run(alloc, &[], &mut source, &mut sink);
     Ok(ended == status && Some(sink.bytes()) == EMPTY_ANSWER.as_bytes().get(..held))
 }
 

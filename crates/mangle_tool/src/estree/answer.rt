@@ -10,11 +10,12 @@ ghost use Rattle.mangle_tool.specs.Mangling.{options_for};
 
 use super::error::MangleError;
 use super::input::{program_of, taken_program};
-use super::layout::{Layout, text_in};
+use super::layout::text_in;
 use crate::mangle::mangle_program;
 use mangle_options::MangleOptions;
 use serde_json::Value;
 use std::alloc::Global;
+use tool_words::Layout;
 use tree_core::Program;
 
 /// The answer to an ESTree in JSON, as `mangle_value` gives it.

@@ -17,13 +17,12 @@ use serde_json::{Map, Value};
 use std::alloc::Global;
 use tree_core::{Program, ReadError, is_too_large, read_tree};
 
-// The program in these bytes, where so many names are reserved. The JSON value is let go here, so that
-// it and what becomes of the program are never held together.
-pub(crate) fn program_of(
-    alloc: Global,
-    input: &[u8],
-    reserved: usize,
-) -> Result<Program, MangleError>
+/// The program in these bytes, where so many names are reserved.
+///
+/// `NotJson`, `TooLarge` and `BadTree` come as `mangle_estree` has them, `BadScope` never.
+//
+// The JSON value is let go here, so that it and what becomes of the program are never held together.
+pub fn program_of(alloc: Global, input: &[u8], reserved: usize) -> Result<Program, MangleError>
     ensures ok { IfOk result (λ p. IsReadFrom reserved input.now p) }
     ensures few { IfOk result (λ p. node_count p + reserved < 2 ^ 30) }
     ensures cause { IfErr result (λ e. IsCauseOf reserved e input.now) }

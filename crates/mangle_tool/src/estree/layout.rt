@@ -8,24 +8,11 @@ ghost use Rattle.mangle_tool.specs.Asked.{layout_of};
 
 use oxc_estree::{CompactFormatter, ConfigFixes, ESTreeSerializer, PrettyFormatter};
 use std::alloc::{AllocError, Global};
+use tool_words::Layout;
 use tree_core::Program;
 
-/// Where white space stands in the tree of an answer.
-#[derive(Clone, Copy, Debug, PartialEq, Eq)]
-pub enum Layout {
-    /// Nowhere.
-    Compact,
-    /// Each field and each element stands on a line of its own, by two spaces a level, and one space
-    /// behind each colon.
-    Pretty,
-}
-
-// The text of a program's tree and of the paths to its literals. Err is want of memory.
-pub(crate) fn text_in(
-    alloc: Global,
-    program: &Program,
-    layout: Layout,
-) -> Result<String, AllocError>
+/// The text of a program's tree and of the paths to its literals. Err is want of memory.
+pub fn text_in(alloc: Global, program: &Program, layout: Layout) -> Result<String, AllocError>
     ensures { IfOk result
         (λ s. string_bytes s ≡ envelope (layout_of layout) (meaning_of program.now)) }
 {

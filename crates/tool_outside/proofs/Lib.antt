@@ -1,0 +1,2 @@
+-- bytes that are told, over several calls
+pub mod ToldBytes

@@ -1,0 +1,9 @@
+pub mod Failures
+pub mod MemorySink
+pub mod MemorySource
+pub mod Outside
+pub mod ReaderSource
+pub mod Sink
+pub mod SliceSource
+pub mod Source
+pub mod WriterSink

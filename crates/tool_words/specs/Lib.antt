@@ -1,0 +1,3 @@
+pub mod MadeNumber
+pub mod Words
+pub mod Readings
