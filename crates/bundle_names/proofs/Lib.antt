@@ -1,0 +1,2 @@
+-- programs one after another
+pub mod JoinedPrograms

@@ -1,0 +1,5 @@
+pub mod Mentions
+pub mod NewNames
+pub mod Plain
+pub mod Joined
+pub mod Bundles
