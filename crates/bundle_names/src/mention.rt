@@ -1,6 +1,6 @@
 //! What the places of a module are to its root.
 
-ghost use Rattle.std.specs.Prelude.{◌≡◌, ◌<◌, ◌&&◌, IfOk, None, Some, get_or, length, map, slice_get};
+ghost use Rattle.std.specs.Prelude.{◌≡◌, ◌<◌, ◌&&◌, ◌||◌, ℕ, Option, IfOk, Some, is_some, length, map, not, slice_get};
 ghost use Rattle.bundle_names.specs.Views.{mention_view};
 ghost use Rattle.bundle_rules.specs.Mentions as rules;
 ghost use Rattle.place_list.specs.Bounds.{IsBounded};
@@ -51,11 +51,24 @@ fn is_node(binding: Option<u32>, node: u32) -> bool
     }
 }
 
-// Whether all three hold.
+// Whether one of the two holds, and whether all three do.
+fn is_either(a: bool, b: bool) -> bool
+    ensures { result ≡ (a || b) }
+{
+    a || b
+}
+
 fn are_all(a: bool, b: bool, c: bool) -> bool
     ensures { result ≡ (a && b && c) }
 {
     a && b && c
+}
+
+// Whether a reference with this binding has none.
+fn is_unresolved(refers: bool, binding: Option<u32>) -> bool
+    ensures { result ≡ (refers && not (is_some binding)) }
+{
+    refers && !binding.is_some()
 }
 
 // A place with its binding.
@@ -75,19 +88,21 @@ fn mention<'t>(
         node: place.node,
         name: place.name,
         binding,
-        variable: declares || refers,
+        variable: is_either(declares, refers),
         root: are_all(declares, own, at_root),
-        unresolved: refers && !binding.is_some(),
+        unresolved: is_unresolved(refers, binding),
         calls_eval: is_eval(place),
     }
 }
 
 // The i-th binding.
 fn binding_at(bindings: &[Option<u32>], i: usize) -> Option<u32>
-    requires { i < length bindings.now }
-    ensures { result ≡ get_or bindings.now i None }
+    ensures { (b : Option ℕ) → slice_get bindings.now i ≡ Some b → result ≡ b }
 {
-    bindings[i]
+    match bindings.get(i) {
+        Some(binding) => *binding,
+        None => None,
+    }
 }
 
 // The i-th place.
@@ -97,7 +112,8 @@ fn mention_at<'t>(tables: &ScopeTables<'t>, i: usize) -> Mention<'t>
     ensures { slice_get (rules.mentions (places_in tables.now.list)) i ≡ Some (mention_view result) }
 {
     let place = tables.list.place(i);
-    let binding = binding_at(tables.bindings(), i);
+    let bindings = tables.bindings();
+    let binding = binding_at(bindings, i);
     mention(&tables.list, &place, binding)
 }
 
