@@ -1,6 +1,7 @@
 -- A walk that begins where others ended: it meets the same places, with the numbers of nodes, scopes and class bodies moved, but for the root's scope.
 use Rattle.std.proofs.Common.{◌≡◌, ℕ, zero, suc, ◌+◌, ◌≤◌, Bool, true, false, cond, List, [], ◌∷◌, ◌++◌, length, map, refl, sym, ap, ap₂, subst, ◌∙◌, arith}
 use Rattle.std.proofs.lemmas.List.{map-append}
+use Rattle.bundle_rules.specs.Moves.{Moves, moved_number, moved_scope, moved_setting, moved_site}
 use Rattle.tree_nodes.specs.Along.{Along, all, each, first_column, other_columns}
 use Rattle.tree_nodes.specs.Roles.{role_at}
 use Rattle.tree_nodes.specs.Table.{Column, Row, row}
@@ -15,34 +16,6 @@ use Rattle.tree_places.specs.Open.{all_open}
 use Rattle.tree_places.specs.Places.{Around, Seen, Setting, Site, at_field, enter, hide, met, no_value, opened, pattern_on, side, strict_in, walk, with_mark}
 use Rattle.tree_places.specs.Scopes.{Scope, number_of}
 
--- by how much
-pub record Moves : Type 0 where
-  pub nodes : ℕ
-  pub scopes : ℕ
-  pub bodies : ℕ
-
-abbrev pub moved_number : ℕ → ℕ → ℕ
-moved_number d zero = zero
-moved_number d (suc n) = suc (d + n)
-
-abbrev pub moved_scope : ℕ → Scope → Scope
-moved_scope d s = map (moved_number d) s
-
-abbrev pub moved_setting : Moves → Setting → Setting
-moved_setting m e = record e {
-  scope = moved_scope m.scopes e.scope;
-  var_scope = moved_scope m.scopes e.var_scope;
-  classes = map (λ c. m.bodies + c) e.classes;
-  heads = map (moved_number m.scopes) e.heads;
-  pattern = map (λ n. m.nodes + n) e.pattern;
-}
-
-abbrev pub moved_site : Moves → Site → Site
-moved_site m s = record s { node = m.nodes + s.node; setting = moved_setting m s.setting }
-
-abbrev pub moved_around : Moves → Around → Around
-moved_around m a = record { outside = moved_setting m a.outside; inside = moved_setting m a.inside; fields = a.fields; number = m.nodes + a.number }
-
 -- the second walk has met what the first has, moved, after other places
 pub record AreMoved (m : Moves) (base : List Site) (s s' : Seen) : Type 0 where
   pub nodes : s'.nodes ≡ m.nodes + s.nodes
@@ -50,6 +23,9 @@ pub record AreMoved (m : Moves) (base : List Site) (s s' : Seen) : Type 0 where
   pub scopes : length s'.scopes ≡ m.scopes + length s.scopes
   pub root : 1 ≤ length s.scopes
   pub sites : s'.sites ≡ map (moved_site m) s.sites ++ base
+
+abbrev pub moved_around : Moves → Around → Around
+moved_around m a = record { outside = moved_setting m a.outside; inside = moved_setting m a.inside; fields = a.fields; number = m.nodes + a.number }
 
 pub moved_later : (d n : ℕ) → 1 ≤ n → moved_number d n ≡ d + n
 moved_later d zero h = absurd (omega (arith, h))

@@ -1,5 +1,6 @@
 pub mod Mentions
 pub mod NewNames
-pub mod Plain
 pub mod Joined
+pub mod Plain
 pub mod Bundles
+pub mod Moves
