@@ -21,7 +21,7 @@ pub(crate) struct Look<'t> {
 }
 
 // Of one module. Err is want of memory.
-fn look<'t>(alloc: Global, program: &'t Program) -> Result<Look<'t>, AllocError>
+fn look_at<'t>(alloc: Global, program: &'t Program) -> Result<Look<'t>, AllocError>
     ensures { IfOk result (λ l. look_view l ≡ look_of program.now) }
 {
     let root = program.root();
@@ -47,7 +47,7 @@ pub(crate) fn look_at_all<'t>(
 {
     let mut looks = Vec::with_capacity(alloc, modules.len())?;
     for program in modules {
-        looks.push(look(alloc, program)?)?;
+        looks.push(look_at(alloc, program)?)?;
     }
     Ok(looks)
 }

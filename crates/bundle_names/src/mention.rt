@@ -72,7 +72,7 @@ fn is_unresolved(refers: bool, binding: Option<u32>) -> bool
 }
 
 // A place with its binding.
-fn mention<'t>(
+fn mention_bound<'t>(
     list: &PlaceList<'t>,
     place: &PlaceEntry<'t>,
     binding: Option<u32>,
@@ -114,7 +114,7 @@ fn mention_at<'t>(tables: &ScopeTables<'t>, i: usize) -> Mention<'t>
     let place = tables.list.place(i);
     let bindings = tables.bindings();
     let binding = binding_at(bindings, i);
-    mention(&tables.list, &place, binding)
+    mention_bound(&tables.list, &place, binding)
 }
 
 /// All places of a module. Err is want of memory.

@@ -38,7 +38,7 @@ impl<'t> Taken<'t> {
 
 // The name, `$` and the number.
 #[tactic(auto, unfolding(bundle_rules::specs::NewNames::numbered))]
-fn numbered(alloc: Global, name: &str, number: u32) -> Result<String, AllocError>
+fn with_number(alloc: Global, name: &str, number: u32) -> Result<String, AllocError>
     ensures { IfOk result (λ s. string_bytes s ≡ rules.numbered name.now number) }
 {
     format!(in alloc; "{name}${number}")
@@ -64,7 +64,7 @@ pub(crate) fn first_free(
     ensures name { IfOk result (λ n. string_bytes n.name ≡ rules.numbered name.now n.number) }
 {
     for number in tried..0xFFFF_FFFF {
-        let candidate = numbered(alloc, name, number + 1)?;
+        let candidate = with_number(alloc, name, number + 1)?;
         if !taken.has(candidate.as_str()) {
             return Ok(Numbered {
                 name: candidate,

@@ -41,7 +41,8 @@ seen_nodes : (t : Parts) → (seen t).nodes ≡ nodes_in t
 unfolding all_open
 seen_nodes t = let e = walk_nodes t (all unlisted) before_all nothing_yet in omega (arith, e)
 
+pub seen_renamed : (t u : Parts) → IsRenamed t u → seen u ≡ seen t
+seen_renamed t u r = sym (seen-blind u) ∙ ap seen r.alike ∙ seen-blind t
+
 pub nodes_renamed : (t u : Parts) → IsRenamed t u → nodes_in u ≡ nodes_in t
-nodes_renamed t u r =
-    let same : seen u ≡ seen t = sym (seen-blind u) ∙ ap seen r.alike ∙ seen-blind t in
-    sym (seen_nodes u) ∙ ap (λ (s : Seen). s.nodes) same ∙ seen_nodes t
+nodes_renamed t u r = sym (seen_nodes u) ∙ ap (λ (s : Seen). s.nodes) (seen_renamed t u r) ∙ seen_nodes t

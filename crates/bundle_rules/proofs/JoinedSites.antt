@@ -27,11 +27,11 @@ body_column = inner (node (codes "body") (Many (ModuleItems 1)))
 abbrev root_setting : Setting
 root_setting = record nowhere { role = Read; scope = 0 ∷ []; var_scope = 0 ∷ []; strict = true }
 
-abbrev top : Around
+abbrev pub top : Around
 top = record { outside = root_setting; inside = root_setting; fields = done; number = 0 }
 
 -- what is seen before them
-abbrev root_seen : Seen
+abbrev pub root_seen : Seen
 root_seen = record { nodes = 1; classes = 0; scopes = (0 ∷ []) ∷ []; sites = []; withs = [] }
 
 -- a walk of items looks around by what their column says alone
@@ -54,14 +54,14 @@ walk_onto (child k t p fields more) y c a s = walk_onto more y c a _
 
 -- ---- a module alone
 
-statements_seen : Parts → Seen
+unfoldable pub statements_seen : Parts → Seen
 statements_seen x = walk x (all body_column) top root_seen
 
 module_seen : (t p : ℕ) (x : Parts) → seen (child Program t p (many x (atom (word 1) (atom empty done))) done) ≡ statements_seen x
 unfolding all_open statements_seen
 module_seen t p x = walk_alike x body_column _ top root_seen refl
 
-bare_seen : (t : Tree) → IsBare t → seen (alone t) ≡ statements_seen (body t)
+pub bare_seen : (t : Tree) → IsBare t → seen (alone t) ≡ statements_seen (body t)
 bare_seen t (k, f) =
     ap (λ (l : Kind). seen (child l t.start t.stop t.fields done)) k ∙ ap (λ (x : Parts). seen (child Program t.start t.stop x done)) f ∙ module_seen t.start t.stop (body t)
 

@@ -4,3 +4,4 @@ pub mod Joined
 pub mod Plain
 pub mod Bundles
 pub mod Moves
+pub mod Laws

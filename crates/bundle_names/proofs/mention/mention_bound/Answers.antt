@@ -7,7 +7,7 @@ use Rattle.scope_rules.specs.Bindings.{node}
 use Rattle.scope_tables.proofs.Numbers.{home_is_known}
 use Rattle.scope_tables.specs.Views.{IsScope}
 use Rattle.std.proofs.Common.{subst, sym}
-use Rattle.bundle_names.proofs.mention.mention.Goals as goal
+use Rattle.bundle_names.proofs.mention.mention_bound.Goals as goal
 
 pub is_root-at_root-requires : goal.is_root-at_root-requires
 is_root-at_root-requires c = record {
