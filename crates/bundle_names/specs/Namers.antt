@@ -27,13 +27,13 @@ pub record Holds (all before : Modules) (given : List Text) (n : Namer) : Type 0
   pub variables : (x : Text) → has n.taken.variables x ≡ is_named_in (λ m. m.variable) all x
   pub unresolved : (x : Text) → has n.unresolved x ≡ is_named_in (λ m. m.unresolved) all x
   pub roots : (x : Text) → has n.roots x ≡ is_named_in (λ m. m.root) before x
-  pub given : (x : Text) → has_text n.taken.given x ≡ is_among given x
+  pub handed_out : (x : Text) → has_text n.taken.given x ≡ is_among given x
 
 -- the names xs were given to those of the mentions that need one, and the map has them
 pub record Naming {Z : Type 0} (all before : Modules) (given : List Text) (ms : List Mention) (xs : List Text) (n : Namer) (names : BTreeMap ℕ (String Z)) : Type 0 where
   pub holds : Holds all before (given ++ xs) n
   pub new : AreNewNames all given (needing all before ms) xs
-  pub names : (k : ℕ) → name_at names k ≡ new_name (needing all before ms) xs k
+  pub told : (k : ℕ) → name_at names k ≡ new_name (needing all before ms) xs k
 
 -- bindings of the root have identifier names of at most 2^31 bytes, to which a number can be put
 abbrev pub CanBeNamed : List Mention → Type 0

@@ -1,6 +1,6 @@
 //! New names for the bindings of the roots that need them.
 
-ghost use Rattle.std.specs.Prelude.{◌≡◌, ◌≤◌, ◌+◌, ◌++◌, ◌∷◌, [], ℕ, List, Some, IfOk, IsTrue, OnOk, length, map, string_bytes};
+ghost use Rattle.std.specs.Prelude.{◌≡◌, ◌≤◌, ◌+◌, ◌++◌, ◌∷◌, ◌&&◌, ◌||◌, ◌^◌, [], ℕ, List, Some, IfOk, IsTrue, OnOk, length, map, string_bytes};
 ghost use Rattle.std.specs.List.{AllByRecursion};
 ghost use Rattle.bundle_names.specs.Looks.{mentions_in};
 ghost use Rattle.bundle_names.specs.Namers.{CanBeNamed, Holds, IsSearched, Naming, tried_at};
@@ -31,6 +31,13 @@ pub(crate) struct Namer<'t> {
     pub tried: BTreeMap<&'t str, u32>,
 }
 
+// Whether the first holds, and one of the others.
+fn is_wanted(root: bool, before: bool, elsewhere: bool) -> bool
+    ensures { result ≡ (root && (before || elsewhere)) }
+{
+    root && (before || elsewhere)
+}
+
 impl<'t> Namer<'t> {
     /// Before the first of these modules. Err is want of memory.
     pub(crate) fn new(alloc: Global, looks: &[Look<'t>]) -> Result<Self, AllocError>
@@ -54,8 +61,9 @@ impl<'t> Namer<'t> {
     fn needs_new_name(&self, mention: &Mention<'t>) -> bool
         ensures { (all before : Modules) (given : List Text) → Holds all before given self.now → result ≡ rules.needs_new_name all before (mention_view mention.now) }
     {
-        mention.root
-            && (self.roots.contains(mention.name) || self.unresolved.contains(mention.name))
+        let before = self.roots.contains(mention.name);
+        let elsewhere = self.unresolved.contains(mention.name);
+        is_wanted(mention.root, before, elsewhere)
     }
 
     // The last number that was tried after the name, or 0.

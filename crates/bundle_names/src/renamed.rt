@@ -34,7 +34,7 @@ fn list_name(
     place: usize,
     name: Option<&String>,
 ) -> Result<(), AllocError>
-    ensures { OnOk result (list.new ≡ list.old ++ listed place (option_map (λ s. string_bytes s.now) name ∷ [])) }
+    ensures { OnOk result (list.new ≡ list.old ++ listed place (option_map (λ s. string_bytes s.now) name.entry ∷ [])) }
 {
     let Some(name) = name else { return Ok(()) };
     if place > 0xFFFF_FFFF {

@@ -1,9 +1,9 @@
 -- The bindings of joined modules are those of each, moved.
-use Rattle.std.proofs.Common.{◌≡◌, ◌<◌, ℕ, zero, suc, ◌+◌, List, [], ◌∷◌, ◌++◌, map, Option, Some, option_map, slice_get, refl, sym, ap, ap₂, subst, ◌∙◌, arith}
+use Rattle.std.proofs.Common.{◌≡◌, ℕ, suc, ◌+◌, List, [], ◌∷◌, ◌++◌, map, Option, Some, slice_get, refl, sym, ap, ap₂, ◌∙◌, arith}
 use Rattle.std.proofs.lemmas.List.{map-append}
 use Rattle.std.specs.List.{AllByRecursion}
 use Rattle.bundle_rules.proofs.BundlePlaces.{moves_at, tagged}
-use Rattle.bundle_rules.proofs.KeptApart.{binding_at, bindings_kept, joint, private_binding_at}
+use Rattle.bundle_rules.proofs.KeptApart.{binding_at, bindings_kept, joint}
 use Rattle.bundle_rules.proofs.NewNamesApart.{Part, parts}
 use Rattle.bundle_rules.proofs.TaggedPlaces.{Tagged, moved_node, same_tagged, tag}
 use Rattle.bundle_rules.specs.Bundles.{AreParts, modules_of}
@@ -12,7 +12,6 @@ use Rattle.bundle_rules.specs.Mentions.{mentions_of}
 use Rattle.bundle_rules.specs.Moves.{IsBare, Moves, moves_after, no_moves}
 use Rattle.bundle_rules.specs.NewNames.{Modules}
 use Rattle.scope_rules.specs.Bindings.{binding, bindings, same_name}
-use Rattle.scope_rules.specs.Open.{all_open}
 use Rattle.tree_nodes.specs.Tree.{Text, Tree, alone}
 use Rattle.tree_places.specs.Places.{Named, Place, places}
 

@@ -1,5 +1,5 @@
 -- The places of joined modules: each is that of a module, under the name that it has after the renaming.
-use Rattle.std.proofs.Common.{◌≡◌, ◌<◌, ℕ, zero, suc, ◌+◌, ◌-◌, Bool, true, false, cond, nat_eq, List, [], ◌∷◌, ◌++◌, length, map, Option, Some, None, find, slice_get, refl, sym, ap, ap₂, subst, ◌∙◌, arith, append_assoc, inl, inr, ◌⊎◌}
+use Rattle.std.proofs.Common.{◌≡◌, ℕ, zero, suc, ◌+◌, ◌-◌, cond, nat_eq, List, [], ◌∷◌, ◌++◌, length, map, Option, Some, None, find, slice_get, refl, sym, ap, ap₂, subst, ◌∙◌, arith, append_assoc, inl, inr, ◌⊎◌}
 use Rattle.std.proofs.lemmas.Bool.{eq-eqb, eqb-true}
 use Rattle.std.proofs.lemmas.List.{append-nil, length-map, map-append}
 use Rattle.std.specs.List.{AllByRecursion}
@@ -7,16 +7,16 @@ use Rattle.bundle_rules.proofs.JoinedSites.{joining_moves_places}
 use Rattle.bundle_rules.proofs.NewNamesApart.{Part, parts}
 use Rattle.bundle_rules.proofs.TaggedPlaces.{Tagged, tag}
 use Rattle.bundle_rules.proofs.Counted.{nodes_renamed, seen_renamed}
-use Rattle.bundle_rules.specs.Bundles.{AreParts, IsPart}
+use Rattle.bundle_rules.specs.Bundles.{AreParts}
 use Rattle.bundle_rules.specs.Joined.{bodies, body, joined, module_of}
-use Rattle.bundle_rules.specs.Mentions.{Mention, mention, mentions, mentions_of}
+use Rattle.bundle_rules.specs.Mentions.{mention, mentions, mentions_of}
 use Rattle.bundle_rules.specs.Moves.{IsBare, Moves, moved_site, moved_sites, moves_after, no_moves}
 use Rattle.bundle_rules.specs.NewNames.{Modules, name_given, names_after, needing}
 use Rattle.list_laws.proofs.FirstOf.{find_only}
 use Rattle.list_laws.proofs.Members.{In, from_append, from_map, in_left, in_map, in_right}
 use Rattle.list_laws.proofs.Tests.{some_one}
 use Rattle.tree_nodes.proofs.Cases.{none_some}
-use Rattle.scope_rules.proofs.PlacesRise.{one_place, places_rise}
+use Rattle.scope_rules.proofs.PlacesRise.{one_place}
 use Rattle.scope_rules.specs.Bindings.{binding, node, same_name}
 use Rattle.scope_rules.specs.Renamings.{all_under, under}
 use Rattle.tree_nodes.specs.Look.{onto}

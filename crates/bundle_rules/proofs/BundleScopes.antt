@@ -1,5 +1,5 @@
 -- Scopes of different modules: only the root is shared.
-use Rattle.std.proofs.Common.{◌≡◌, ◌<◌, ◌≤◌, ℕ, zero, suc, ◌+◌, ◌-◌, Bool, true, false, List, [], ◌∷◌, ◌++◌, length, map, reverse, Option, Some, slice_get, refl, sym, ap, subst, ◌∙◌, arith, inl, inr, ◌⊎◌}
+use Rattle.std.proofs.Common.{◌≡◌, ◌<◌, ◌≤◌, ℕ, zero, suc, ◌+◌, ◌-◌, Bool, true, false, List, [], ◌∷◌, length, Some, slice_get, refl, sym, ap, subst, ◌∙◌, arith, inl, inr, ◌⊎◌}
 use Rattle.std.proofs.lemmas.Bool.{cases_order, or_cases}
 use Rattle.std.proofs.lemmas.List.{length-reverse}
 use Rattle.std.specs.List.{AllByRecursion}
@@ -7,7 +7,7 @@ use Rattle.bundle_rules.proofs.BundlePlaces.{moves_at}
 use Rattle.bundle_rules.proofs.JoinedSites.{bare_seen, root_seen, statements_seen, top}
 use Rattle.bundle_rules.proofs.MovedWalks.{moved_later}
 use Rattle.bundle_rules.proofs.NewNamesApart.{Part}
-use Rattle.bundle_rules.proofs.ScopesLie.{AllLie, Later, Lies, LiesIn, walk_lies}
+use Rattle.bundle_rules.proofs.ScopesLie.{Later, Lies, LiesIn, walk_lies}
 use Rattle.bundle_rules.specs.Joined.{body}
 use Rattle.bundle_rules.specs.Moves.{IsBare, Moves, moved_number, moved_scope, moves_after}
 use Rattle.list_laws.proofs.AllOf.{AllOf, AllOf_reverse, of_each}

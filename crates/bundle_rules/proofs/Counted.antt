@@ -9,7 +9,7 @@ use Rattle.tree_nodes.specs.declared.table.Opens.TheVariants.{BareBlock, Block, 
 use Rattle.tree_places.proofs.Blind.{seen-blind}
 use Rattle.tree_places.specs.Open.{all_open}
 use Rattle.tree_places.specs.Places.{Around, Seen, Setting, at_field, before_all, enter, hide, met, nothing_yet, seen, walk}
-use Rattle.tree_places.specs.Renaming.{IsRenamed, blind}
+use Rattle.tree_places.specs.Renaming.{IsRenamed}
 use Rattle.tree_places.specs.Scopes.{Scope}
 
 met_nodes : (o : Opens) (b : ℕ) (e : Setting) (inner : Scope) (s : Seen) → (met o b e inner s).nodes ≡ suc s.nodes

@@ -1,5 +1,5 @@
 -- The places of modules one after another are theirs, moved.
-use Rattle.std.proofs.Common.{◌≡◌, ℕ, zero, suc, ◌+◌, ◌-◌, ◌≤◌, true, List, [], ◌∷◌, ◌++◌, length, map, reverse, codes, refl, sym, ap, ap₂, subst, ◌∙◌, arith, append_assoc}
+use Rattle.std.proofs.Common.{◌≡◌, ℕ, ◌+◌, true, List, [], ◌∷◌, ◌++◌, length, map, reverse, codes, refl, sym, ap, subst, ◌∙◌, arith, append_assoc}
 use Rattle.std.proofs.lemmas.List.{append-nil, length-reverse, reverse-append, reverse-reverse}
 use Rattle.std.specs.List.{AllByRecursion}
 use Rattle.bundle_rules.proofs.Counted.{walk_nodes}
@@ -7,7 +7,7 @@ use Rattle.bundle_rules.proofs.MovedWalks.{AreMoved, moved_around, walk_moved}
 use Rattle.bundle_rules.specs.Joined.{bodies, body, joined, module_of}
 use Rattle.bundle_rules.specs.Moves.{IsBare, JoiningMovesPlaces, Moves, moved_site, moved_sites, moves_after, no_moves}
 use Rattle.list_laws.proofs.Mapped.{map_reverse}
-use Rattle.tree_nodes.specs.Along.{all, each, first_column, other_columns}
+use Rattle.tree_nodes.specs.Along.{all, each}
 use Rattle.tree_nodes.specs.Look.{onto}
 use Rattle.tree_nodes.specs.NodeCount.{nodes_in}
 use Rattle.tree_nodes.specs.Table.{Column, inner, node, row}

@@ -1,21 +1,19 @@
 -- The names of joined modules keep apart what the names of each module do, with its number.
-use Rattle.std.proofs.Common.{◌≡◌, ◌<◌, ◌≤◌, ℕ, zero, suc, ◌+◌, ◌-◌, Bool, true, false, ◌&&◌, ◌||◌, cond, nat_eq, List, [], ◌∷◌, ◌++◌, length, map, not, Option, Some, None, is_some, option_map, slice_get, refl, sym, ap, ap₂, subst, ◌∙◌, arith, append_assoc, inl, inr, ◌⊎◌}
+use Rattle.std.proofs.Common.{◌≡◌, ◌<◌, ◌≤◌, ℕ, zero, suc, ◌+◌, Bool, true, false, ◌&&◌, ◌||◌, nat_eq, List, [], ◌∷◌, ◌++◌, map, not, Option, Some, None, is_some, option_map, slice_get, refl, sym, ap, ap₂, subst, ◌∙◌, arith, append_assoc, inl, inr, ◌⊎◌}
 use Rattle.std.proofs.lemmas.Bool.{and_from, and_parts, both_ways, cases_eq, cases_order, eq-eqb, eqb-true, ne_eqb, or_cases, or_left, or_right}
-use Rattle.std.proofs.lemmas.List.{map-append}
 use Rattle.std.specs.List.{AllByRecursion, Contains, list_any}
-use Rattle.bundle_rules.proofs.BundlePlaces.{Source, final, final_place, final_there, joined_places, moves_at, new, new_is, renamed, source, tagged, under_new}
+use Rattle.bundle_rules.proofs.BundlePlaces.{final, final_place, final_there, joined_places, moves_at, new, new_is, source, tagged, under_new}
 use Rattle.bundle_rules.proofs.BundleScopes.{home_lies, moves_apart, scope_lies, scopes_in, shared_root}
 use Rattle.bundle_rules.proofs.NewNamesApart.{Part, at_no_variable, named_after, named_elsewhere, of_one_binding, of_one_module, parts}
 use Rattle.bundle_rules.proofs.ScopesLie.{Lies}
 use Rattle.bundle_rules.proofs.TaggedPlaces.{Tagged, binding_moved, home_moved, moved_node, private_binding_moved, same_tagged, tag, tagged_tells}
 use Rattle.bundle_rules.specs.Bundles.{AreParts, modules_of}
 use Rattle.bundle_rules.specs.Joined.{joined}
-use Rattle.bundle_rules.specs.Laws.{all_moved, bindings_moved}
 use Rattle.bundle_rules.specs.Mentions.{Mention, is_root, mention, mentions, mentions_of}
-use Rattle.bundle_rules.specs.Moves.{IsBare, Moves, moved_scope, moved_site, moves_after, no_moves}
+use Rattle.bundle_rules.specs.Moves.{IsBare, Moves, moved_scope, moves_after, no_moves}
 use Rattle.bundle_rules.specs.NewNames.{is_named, is_named_in, name_given}
 use Rattle.list_laws.proofs.AnyOf.{any_from, any_some}
-use Rattle.list_laws.proofs.Members.{In, contains_from_in, from_append, from_map, in_from_Contains, in_map}
+use Rattle.list_laws.proofs.Members.{In, from_append, from_map, in_from_Contains, in_map}
 use Rattle.list_laws.proofs.Tests.{some_one}
 use Rattle.tree_nodes.proofs.Cases.{none_some}
 use Rattle.scope_rules.proofs.BindingsStay as stay
@@ -24,13 +22,13 @@ use Rattle.scope_rules.proofs.SameNames.{same_name_tells}
 use Rattle.scope_rules.specs.Bindings.{binding, bindings, is_node, node, same_name}
 use Rattle.scope_rules.specs.Homes.{declares, home, refers}
 use Rattle.scope_rules.specs.Open.{all_open}
-use Rattle.scope_rules.specs.PrivateNames.{private_binding, private_bindings}
+use Rattle.scope_rules.specs.PrivateNames.{private_binding}
 use Rattle.scope_rules.specs.Renamings.{IsBindingOf, KeepsApart, all_under, is_bound_inside, is_live_in}
 use Rattle.tree_nodes.specs.Tree.{Text, Tree, alone}
 use Rattle.tree_places.proofs.Outwards.{inside_refl, same_scope_eq}
 use Rattle.tree_places.specs.Chosen.{or_own}
 use Rattle.tree_places.specs.Laws.{RiseFrom}
-use Rattle.tree_places.specs.Places.{Named, Place, Site, places, sites}
+use Rattle.tree_places.specs.Places.{Named, Place, places}
 use Rattle.tree_places.specs.Scopes.{Scope, is_inside, same_scope}
 
 -- ---- a module among the others

@@ -1,13 +1,12 @@
 -- New names stand at no variable place, and no two bindings have one.
-use Rattle.std.proofs.Common.{◌≡◌, ◌<◌, ℕ, zero, suc, ◌+◌, Bool, true, false, cond, ◌&&◌, ◌||◌, nat_eq, List, [], ◌∷◌, ◌++◌, filter, length, map, Option, Some, None, slice_get, IsFalse, refl, sym, ap, ap₂, subst, ◌∙◌, arith, inl, inr, ◌⊎◌}
-use Rattle.std.proofs.lemmas.Bool.{and_from, both_ways, eq-eqb, eqb-true, or_cases, or_left, or_parts, or_right}
+use Rattle.std.proofs.Common.{◌≡◌, ◌<◌, ℕ, zero, suc, Bool, true, false, cond, nat_eq, List, [], ◌∷◌, ◌++◌, Option, Some, None, slice_get, refl, sym, ap, subst, ◌∙◌, arith, inl, inr, ◌⊎◌}
+use Rattle.std.proofs.lemmas.Bool.{and_from, both_ways, eq-eqb, eqb-true, or_left, or_parts, or_right}
 use Rattle.std.proofs.lemmas.List.Folds.{list_any-append}
-use Rattle.std.specs.List.{list_any}
-use Rattle.bundle_rules.specs.Bundles.{AreParts, IsPart}
+use Rattle.bundle_rules.specs.Bundles.{AreParts}
 use Rattle.bundle_rules.specs.Mentions.{Mention, mentions_of}
 use Rattle.bundle_rules.specs.NewNames.{AreNewNames, Modules, is_named, is_named_in, is_taken, name_given, needing, needs_new_name, new_name}
 use Rattle.list_laws.proofs.AnyOf.{any_from}
-use Rattle.list_laws.proofs.Members.{In, in_filter, in_left, in_right}
+use Rattle.list_laws.proofs.Members.{In, in_filter, in_right}
 use Rattle.list_laws.proofs.Tests.{some_one}
 use Rattle.tree_nodes.proofs.Cases.{none_some}
 use Rattle.scope_rules.proofs.SameNames.{in_among, same_name_tells}

@@ -1,5 +1,5 @@
 -- The places of one module among those of others, under names with the module's number: each has the binding that it has alone, moved.
-use Rattle.std.proofs.Common.{◌≡◌, ℕ, zero, suc, ◌+◌, Bool, true, false, cond, ◌&&◌, nat_eq, List, [], ◌∷◌, ◌++◌, map, Option, Some, None, option_map, find, IsTrue, refl, sym, ap, ap₂, subst, ◌∙◌, arith}
+use Rattle.std.proofs.Common.{◌≡◌, ℕ, zero, suc, ◌+◌, Bool, true, false, cond, ◌&&◌, nat_eq, List, [], ◌∷◌, ◌++◌, map, Option, Some, None, option_map, find, IsTrue, refl, ap, ap₂, subst, ◌∙◌, arith}
 use Rattle.std.proofs.lemmas.Bool.{and_left, and_parts, and_right, eq-eqb, eqb-true, or_parts}
 use Rattle.std.specs.List.{list_any}
 use Rattle.bundle_rules.specs.Moves.{Moves, moved_number, moved_scope, moved_site}
@@ -8,7 +8,7 @@ use Rattle.list_laws.proofs.FirstOf.{find_map, find_past, find_same}
 use Rattle.list_laws.proofs.Members.{In}
 use Rattle.list_laws.proofs.Tests.{tests_agree}
 use Rattle.scope_rules.proofs.SameNames.{same_name_tells}
-use Rattle.scope_rules.specs.Bindings.{at_home, binder, binding, declares_at, names_function_at, node, node_of, or_else, plain_binder, same_name}
+use Rattle.scope_rules.specs.Bindings.{at_home, binder, binding, declares_at, names_function_at, node_of, or_else, plain_binder, same_name}
 use Rattle.scope_rules.specs.Homes.{declares, declares_plainly, home, is_var, names_function, refers}
 use Rattle.scope_rules.specs.Open.{all_open}
 use Rattle.scope_rules.specs.PrivateNames.{declares_private_name, is_innermost, is_member_key, private_binder, private_binding}

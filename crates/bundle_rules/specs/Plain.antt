@@ -1,5 +1,5 @@
 -- Which modules can be put into one scope with others.
-use Rattle.std.specs.Prelude.{ℕ, ◌^◌, Bool, true, false, not, ◌&&◌, ◌||◌, nat_eq, nat_lt, List, codes, length}
+use Rattle.std.specs.Prelude.{◌^◌, Bool, false, not, ◌&&◌, ◌||◌, nat_eq, nat_lt, codes, length}
 use Rattle.std.specs.List.{list_any}
 use Rattle.bundle_rules.specs.Joined.{body}
 use Rattle.bundle_rules.specs.Mentions.{Mention, mentions_of}
