@@ -1,0 +1,21 @@
+-- The laws on joined modules.
+use Rattle.std.specs.Prelude.{◌≡◌, ℕ, ◌+◌, List, [], ◌∷◌, ◌++◌, map, Option, option_map}
+use Rattle.std.specs.List.{AllByRecursion}
+use Rattle.bundle_rules.specs.Bundles.{IsBundle}
+use Rattle.bundle_rules.specs.Moves.{IsBare, Moves, moves_after, no_moves}
+use Rattle.scope_rules.specs.Bindings.{bindings, same_name}
+use Rattle.tree_nodes.specs.Tree.{Tree, alone}
+use Rattle.tree_places.specs.Places.{Place, places}
+
+-- the binding of each place of a module, as a node of the joined module
+unfoldable pub bindings_moved : Moves → List (Option ℕ) → List (Option ℕ)
+bindings_moved m bs = map (option_map (λ n. m.nodes + n)) bs
+
+-- those of modules one after another
+unfoldable pub all_moved : (List Place → List (Option ℕ)) → Moves → List Tree → List (Option ℕ)
+all_moved bound m [] = []
+all_moved bound m (t ∷ ts) = bindings_moved m (bound (places (alone t))) ++ all_moved bound (moves_after m t) ts
+
+-- every place of a module has in the joined one the binding that it has in its own, moved, or none in both
+abbrev pub BundlesKeepBindings : Type 0
+BundlesKeepBindings = (ts : List Tree) (w : Tree) → AllByRecursion IsBare ts → IsBundle ts w → bindings same_name (places (alone w)) ≡ all_moved (bindings same_name) no_moves ts

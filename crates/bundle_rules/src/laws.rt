@@ -1,0 +1,17 @@
+//! The laws on joined modules. The functions here do nothing: each has a law as its contract.
+
+ghost use Rattle.bundle_rules.specs.Laws.{BundlesKeepBindings};
+ghost use Rattle.bundle_rules.specs.Moves.{JoiningMovesPlaces};
+
+/// The law that the places of modules one after another are theirs, in order, each with what holds where it
+/// stands: only the numbers of nodes, scopes and class bodies are moved, by those of the modules before, and
+/// the root's scope is shared.
+pub fn joining_moves_places()
+    ensures { JoiningMovesPlaces }
+{}
+
+/// The law that every place of a module has in the joined one the binding that it has in its own, moved, or none
+/// in both.
+pub fn bundles_keep_bindings()
+    ensures { BundlesKeepBindings }
+{}

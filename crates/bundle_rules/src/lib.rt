@@ -1,0 +1,8 @@
+//! What it is to put modules into one scope: definitions that contracts cite.
+//!
+//! The functions here do nothing: each has a law as its contract.
+#![tactic(auto)]
+
+mod laws;
+
+pub use laws::{bundles_keep_bindings, joining_moves_places};
