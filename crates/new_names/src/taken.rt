@@ -11,8 +11,8 @@ ghost use Rattle.scope_rules.specs.Homes as homes;
 ghost use Rattle.scope_rules.specs.PrivateNames.{is_among};
 ghost use Rattle.tree_nodes.specs.Tree.{Text};
 
-use mangle_options::MangleOptions;
 use free_names::Guard;
+use mangle_options::MangleOptions;
 use place_list::{PlaceEntry, PlaceList};
 use std::alloc::{AllocError, Global};
 use tree_nodes::Role;

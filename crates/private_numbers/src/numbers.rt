@@ -14,8 +14,8 @@ ghost use Rattle.private_numbers.specs.AllNumbers.{IsNumbered, numbers_at, table
 
 use crate::class_numbers::{ClassNumbers, class_numbers};
 use class_tables::PrivateTable;
-use oxc_data_structures::inline_string::InlineString;
 use free_names::base54;
+use oxc_data_structures::inline_string::InlineString;
 use place_list::PlaceEntry;
 use std::alloc::{AllocError, Global};
 

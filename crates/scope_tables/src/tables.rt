@@ -1,14 +1,18 @@
 //! The bindings and the faults of a whole tree.
 
 ghost use Rattle.std.specs.Prelude.{◌≡◌, ◌<◌, IfOk, IfSome, Some, is_some, length, map, slice_get, take};
-ghost use Rattle.place_list.specs.TableViews.{places_in, scopes_in, withs_in};
+ghost use Rattle.place_list.specs.Bounds.{IsBounded};
+ghost use Rattle.place_list.specs.Names.{AreNumbered};
+ghost use Rattle.place_list.specs.TableViews.{list_view, places_in, scopes_in, withs_in};
 ghost use Rattle.scope_rules.specs.Bindings as rules;
 ghost use Rattle.scope_rules.specs.Bindings.{same_name};
 ghost use Rattle.scope_rules.specs.Evals.{contains};
 ghost use Rattle.scope_rules.specs.Faults as faulty;
 ghost use Rattle.scope_tables.specs.FaultsOf.{AreFaults, faults_of};
+ghost use Rattle.scope_tables.specs.Views.{nodes_of};
 ghost use Rattle.scope_tables.specs.WholeTree.{AreTables};
 ghost use Rattle.tree_nodes.specs.Tree.{alone};
+ghost use Rattle.tree_places.specs.Laws.{RiseFrom};
 ghost use Rattle.tree_places.specs.Places as spec;
 
 use crate::faults::Faults;
@@ -37,6 +41,18 @@ impl<'t> ScopeTables<'t> {
         ensures tables { IfOk result (λ t. AreTables t) }
     {
         let list = list_places(alloc, root)?;
+        let tables = ScopeTables::from_list(alloc, list)?;
+        Ok(tables)
+    }
+
+    /// The tables of a list of places, which they keep. Err is want of memory.
+    pub fn from_list(alloc: Global, list: PlaceList<'t>) -> Result<Self, AllocError>
+        requires bounded { IsBounded (list_view list) }
+        requires numbered { AreNumbered list.places.items }
+        requires rising { RiseFrom 0 (nodes_of list.places.items) }
+        ensures list { IfOk result (λ t. t.list ≡ list.entry) }
+        ensures tables { IfOk result (λ t. AreTables t) }
+    {
         let resolved = resolve(alloc, &list, list.places.as_slice())?;
         Ok(ScopeTables { list, resolved })
     }

@@ -101,7 +101,7 @@ own_name_told (Some b) xs k n x t e h r is told = told ∙ ap (λ (y : Option Te
 
 pub names_change : (s : Scoping) (names : Vec (Option Text) Global) → IsScoping s → length names.items ≡ length s.names.items → IsScoping (under_names s names)
 names_change s names h e = record {
-  bounded = h.bounded;
+  tables_are = h.tables_are;
   few_scopes = h.few_scopes;
   few_symbols = h.few_symbols;
   few_references = h.few_references;

@@ -2,13 +2,14 @@
 use Rattle.std.specs.Prelude.{◌≡◌, ◌<◌, ◌≤◌, ◌-◌, ◌^◌, ℕ, List, [], ◌∷◌, map, length, get_or, Option, Some, None, IfSome}
 use Rattle.std.specs.List.{AllByRecursion, range_with_len}
 use Rattle.std.proofs.Common.{Vec, Global}
-use Rattle.place_list.specs.Bounds.{IsBounded}
 use Rattle.place_list.specs.Nodes.{ScopeNode}
-use Rattle.place_list.specs.TableViews.{list_view, places_in, scope_nodes_in, scopes_in}
+use Rattle.place_list.specs.TableViews.{places_in, scope_nodes_in, scopes_in}
 use Rattle.scope_rules.specs.Bindings.{same_name}
 use Rattle.scope_rules.specs.Evals.{holds_eval}
 use Rattle.scope_rules.specs.References.{is_unresolved, references}
 use Rattle.scope_rules.specs.Symbols.{symbols}
+use Rattle.scope_tables.specs.WholeTree.{AreTables}
+use Rattle.scope_tables.specs.declared.tables.ScopeTables.{ScopeTables}
 use Rattle.syntax_sem.specs.SymbolFlags as symbol
 use Rattle.tree_nodes.specs.Tree.{Text}
 use Rattle.tree_places.specs.Places.{Place}
@@ -20,16 +21,20 @@ use Rattle.tree_symbols.specs.SymbolTables.{AreSymbolsOf}
 use Rattle.tree_symbols.specs.Unresolved.{has_name}
 use Rattle.tree_symbols.specs.declared.scoping.Scoping.{Scoping}
 
--- the places and the scopes of the tree that it is of
+-- the tables of the tree that it is of
+abbrev pub tables_of : Scoping → ScopeTables
+tables_of s = s.tables
+
+-- its places and its scopes
 abbrev pub places_of : Scoping → List Place
-places_of s = places_in s.list
+places_of s = places_in s.tables.list
 
 abbrev pub scopes_of : Scoping → List Scope
-scopes_of s = scopes_in s.list
+scopes_of s = scopes_in s.tables.list
 
 -- what is told of its scopes
 abbrev pub scope_nodes_of : Scoping → List ScopeNode
-scope_nodes_of s = scope_nodes_in s.list
+scope_nodes_of s = scope_nodes_in s.tables.list
 
 -- the number of the scope around a scope
 unfoldable pub parent_of : Scope → Option ℕ
@@ -47,11 +52,11 @@ Fits n = n < 2 ^ 32 - 1
 
 -- its tables are those of its tree
 pub record IsScoping (s : Scoping) : Type 0 where
-  pub bounded : IsBounded (list_view s.list)
-  pub few_scopes : length s.list.scopes.items ≤ 2 ^ 32 - 1
+  pub tables_are : AreTables s.tables
+  pub few_scopes : length s.tables.list.scopes.items ≤ 2 ^ 32 - 1
   pub few_symbols : length (symbols same_name (places_of s)) ≤ 2 ^ 32 - 1
   pub few_references : length (references (places_of s)) ≤ 2 ^ 32 - 1
-  pub symbols_are : AreSymbolsOf (places_of s) (length s.list.scopes.items) s.symbols
+  pub symbols_are : AreSymbolsOf (places_of s) (length s.tables.list.scopes.items) s.symbols
   pub nodes_fit : AllByRecursion Fits (nodes_of s.symbols.symbols.items)
   pub homes_fit : AllByRecursion (λ o. IfSome o Fits) (map home_number s.symbols.symbols.items)
   pub numbers_fit : IsRowBelow (2 ^ 32 - 1) s.symbols.node_symbols.items

@@ -17,7 +17,7 @@ ghost use Rattle.syntax_sem.specs.SymbolFlags as flags;
 ghost use Rattle.syntax_sem.specs.SymbolId as symbol_id;
 ghost use Rattle.tree_symbols.specs.Flags as spec;
 ghost use Rattle.tree_symbols.specs.ReferenceTables.{or_root, told, view};
-ghost use Rattle.tree_symbols.specs.Scopings.{IsScoping, name_set, parent_of, places_of, scope_nodes_of, scopes_of, under_names};
+ghost use Rattle.tree_symbols.specs.Scopings.{IsScoping, name_set, parent_of, places_of, scope_nodes_of, scopes_of, tables_of, under_names};
 
 use crate::flags::scope_flags;
 use crate::ids::{scope_at, scope_or_root, symbol_at};
@@ -31,7 +31,6 @@ use crate::unresolved::{is_among, unresolved_names};
 use arena_core::BitSet;
 use oxc_data_structures::inline_string::InlineString;
 use oxc_str::{Ident, new_const_ident};
-use place_list::PlaceList;
 use scope_marks::scopes_with_evals;
 use scope_tables::ScopeTables;
 use std::alloc::{AllocError, Global};
@@ -48,7 +47,7 @@ const MOST: usize = 4_294_967_295;
 /// binding, of references by place, of scopes by the node that opens one.
 #[derive(Drop)]
 pub struct Scoping<'t> {
-    list: PlaceList<'t>,
+    tables: ScopeTables<'t>,
     symbols: SymbolTable<'t>,
     symbol_flags: Vec<SymbolFlags>,
     references: ReferenceTable,
@@ -64,7 +63,7 @@ impl<'t> Scoping<'t> {
     pub fn build(alloc: Global, tables: ScopeTables<'t>) -> Result<Self, AllocError>
         requires { AreTables tables }
         ensures scoping { IfOk result (λ s. IsScoping s) }
-        ensures list { IfOk result (λ s. s.list ≡ tables.entry.list) }
+        ensures tables { IfOk result (λ s. tables_of s ≡ tables.entry) }
     {
         let known = known_places(alloc, &tables)?;
         let places = known.as_slice();
@@ -83,7 +82,7 @@ impl<'t> Scoping<'t> {
         let evals = scopes_with_evals(alloc, &tables.list)?;
         let names = no_names(alloc, count)?;
         Ok(Scoping {
-            list: tables.list,
+            tables,
             symbols,
             symbol_flags,
             references,
@@ -91,6 +90,13 @@ impl<'t> Scoping<'t> {
             evals,
             names,
         })
+    }
+
+    /// The places and scopes of the tree, and what each place is bound to: what stages that choose names stand on.
+    pub fn tables(&self) -> &ScopeTables<'t>
+        ensures { result.now ≡ tables_of self.now }
+    {
+        &self.tables
     }
 
     /// How many symbols there are.
@@ -117,7 +123,7 @@ impl<'t> Scoping<'t> {
         ensures scopes { result ≡ length (scopes_of self.now) }
         ensures few { result ≤ 2 ^ 32 - 1 }
     {
-        self.list.scopes.len()
+        self.tables.list.scopes.len()
     }
 
     /// The name of a symbol in the tree.
@@ -186,7 +192,7 @@ impl<'t> Scoping<'t> {
         ensures { IfSome (slice_get (scope_nodes_of self.now) (scope_id.number_of id)) (λ n. IfSome (slice_get (scopes_of self.now) (scope_id.number_of id)) (λ s. scope_flag.bits_of result ≡ spec.scope_flags n.kind n.strict (holds_eval (places_of self.now) s))) }
     {
         let k = id.index();
-        let scope = self.list.scope(k as u32);
+        let scope = self.tables.list.scope(k as u32);
         scope_flags(scope.kind, scope.strict, self.evals.has_bit(k))
     }
 
@@ -196,7 +202,7 @@ impl<'t> Scoping<'t> {
         requires id { scope_id.number_of id < length (scopes_of self.now) }
         ensures { IfSome (slice_get (scopes_of self.now) (scope_id.number_of id)) (λ s. option_map scope_id.number_of result ≡ parent_of s) }
     {
-        scope_at(self.list.parent(id.index() as u32))
+        scope_at(self.tables.list.parent(id.index() as u32))
     }
 
     /// A scope and those around it, from the scope itself outwards.
@@ -205,7 +211,7 @@ impl<'t> Scoping<'t> {
         requires id { scope_id.number_of id < length (scopes_of self.now) }
         ensures { IfSome (slice_get (scopes_of self.now) (scope_id.number_of id)) (λ s. result ≡ s) }
     {
-        ScopeAncestors::new(self.list.scopes.as_slice(), Some(id.index() as u32))
+        ScopeAncestors::new(self.tables.list.scopes.as_slice(), Some(id.index() as u32))
     }
 
     /// Each scope, rising, with what `get_bindings` gives of it.

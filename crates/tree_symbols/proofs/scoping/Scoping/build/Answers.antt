@@ -53,7 +53,7 @@ symbol_flags-requires c =
     let scopes : length c.args.tables.list.scopes.items ≤ 4294967295 = omega (arith, c.len-scopes.ensures) in
     let is_row : IsRowOf c.in_ok-symbols.symbols.symbols.items c.as_slice-row.result.now = subst (λ (row : List (Option ℕ)). IsRowOf c.in_ok-symbols.symbols.symbols.items row) (sym c.as_slice-row.ensures.value) c.in_ok-numbers.ensures in
     let are : AreSymbols c.as_slice-places.result.now (length c.args.tables.list.scopes.items) c.in_ok-symbols.symbols = (let same : c.len-scopes.result ≡ length c.args.tables.list.scopes.items = omega (arith, c.len-scopes.ensures) in subst (λ (n : ℕ). AreSymbols c.as_slice-places.result.now n c.in_ok-symbols.symbols) same c.in_ok-symbols.ensures) in
-    let many : c.len-count.result ≡ length c.in_ok-symbols.symbols.symbols.items = counted c.args.tables.list c.as_slice-places.result.now known c.requires.bounded c.above_nodes-nodes.result rising c.above_nodes-nodes.ensures few scopes c.in_ok-symbols.symbols c.len-count.result are c.len-count.ensures in
+    let many : c.len-count.result ≡ length c.in_ok-symbols.symbols.symbols.items = counted c.args.tables c.requires c.as_slice-places.result.now known c.above_nodes-nodes.result rising c.above_nodes-nodes.ensures few scopes c.in_ok-symbols.symbols c.len-count.result are c.len-count.ensures in
     subst (λ (n : ℕ). IsRowBelow n c.as_slice-row.result.now) (sym many) (row_below c.in_ok-symbols.symbols.symbols.items c.as_slice-row.result.now is_row)
 
 pub new-requires-2-clause-row : goal.new-requires-2-clause-row
@@ -64,7 +64,7 @@ new-requires-2-clause-row c =
     let scopes : length c.args.tables.list.scopes.items ≤ 4294967295 = omega (arith, c.len-scopes.ensures) in
     let is_row : IsRowOf c.in_ok-symbols.symbols.symbols.items c.as_slice-row.result.now = subst (λ (row : List (Option ℕ)). IsRowOf c.in_ok-symbols.symbols.symbols.items row) (sym c.as_slice-row.ensures.value) c.in_ok-numbers.ensures in
     let are : AreSymbols c.as_slice-places.result.now (length c.args.tables.list.scopes.items) c.in_ok-symbols.symbols = (let same : c.len-scopes.result ≡ length c.args.tables.list.scopes.items = omega (arith, c.len-scopes.ensures) in subst (λ (n : ℕ). AreSymbols c.as_slice-places.result.now n c.in_ok-symbols.symbols) same c.in_ok-symbols.ensures) in
-    let many : c.len-count.result ≡ length c.in_ok-symbols.symbols.symbols.items = counted c.args.tables.list c.as_slice-places.result.now known c.requires.bounded c.above_nodes-nodes.result rising c.above_nodes-nodes.ensures few scopes c.in_ok-symbols.symbols c.len-count.result are c.len-count.ensures in
+    let many : c.len-count.result ≡ length c.in_ok-symbols.symbols.symbols.items = counted c.args.tables c.requires c.as_slice-places.result.now known c.above_nodes-nodes.result rising c.above_nodes-nodes.ensures few scopes c.in_ok-symbols.symbols c.len-count.result are c.len-count.ensures in
     subst (λ (n : ℕ). IsRowBelow n c.as_slice-row.result.now) (sym many) (row_below c.in_ok-symbols.symbols.symbols.items c.as_slice-row.result.now is_row)
 
 pub new-requires-2-clause-symbols : goal.new-requires-2-clause-symbols
@@ -74,7 +74,7 @@ new-requires-2-clause-symbols c =
     let few : c.above_nodes-nodes.result ≤ 4294967295 = omega arith in
     let scopes : length c.args.tables.list.scopes.items ≤ 4294967295 = omega (arith, c.len-scopes.ensures) in
     let are : AreSymbols c.as_slice-places.result.now (length c.args.tables.list.scopes.items) c.in_ok-symbols.symbols = (let same : c.len-scopes.result ≡ length c.args.tables.list.scopes.items = omega (arith, c.len-scopes.ensures) in subst (λ (n : ℕ). AreSymbols c.as_slice-places.result.now n c.in_ok-symbols.symbols) same c.in_ok-symbols.ensures) in
-    let many : c.len-count.result ≡ length c.in_ok-symbols.symbols.symbols.items = counted c.args.tables.list c.as_slice-places.result.now known c.requires.bounded c.above_nodes-nodes.result rising c.above_nodes-nodes.ensures few scopes c.in_ok-symbols.symbols c.len-count.result are c.len-count.ensures in
+    let many : c.len-count.result ≡ length c.in_ok-symbols.symbols.symbols.items = counted c.args.tables c.requires c.as_slice-places.result.now known c.above_nodes-nodes.result rising c.above_nodes-nodes.ensures few scopes c.in_ok-symbols.symbols c.len-count.result are c.len-count.ensures in
     let fit : length c.in_ok-symbols.symbols.symbols.items ≤ c.above_nodes-nodes.result = symbols_fit c.above_nodes-nodes.result c.as_slice-places.result.now rising c.above_nodes-nodes.ensures c.in_ok-symbols.symbols.symbols.items c.in_ok-symbols.ensures.symbols_are in
     omega (arith, many, fit, few)
 
@@ -101,6 +101,6 @@ returns-clause-scoping c =
     let scopes : length c.args.tables.list.scopes.items ≤ 4294967295 = omega (arith, c.len-scopes.ensures) in
     let is_row : IsRowOf c.in_ok-symbols.symbols.symbols.items c.as_slice-row.result.now = subst (λ (row : List (Option ℕ)). IsRowOf c.in_ok-symbols.symbols.symbols.items row) (sym c.as_slice-row.ensures.value) c.in_ok-numbers.ensures in
     let are : AreSymbols c.as_slice-places.result.now (length c.args.tables.list.scopes.items) c.in_ok-symbols.symbols = (let same : c.len-scopes.result ≡ length c.args.tables.list.scopes.items = omega (arith, c.len-scopes.ensures) in subst (λ (n : ℕ). AreSymbols c.as_slice-places.result.now n c.in_ok-symbols.symbols) same c.in_ok-symbols.ensures) in
-    let many : c.len-count.result ≡ length c.in_ok-symbols.symbols.symbols.items = counted c.args.tables.list c.as_slice-places.result.now known c.requires.bounded c.above_nodes-nodes.result rising c.above_nodes-nodes.ensures few scopes c.in_ok-symbols.symbols c.len-count.result are c.len-count.ensures in
-    is_scoping c.args.tables.list c.as_slice-places.result.now known c.requires.bounded c.above_nodes-nodes.result rising c.above_nodes-nodes.ensures few scopes c.in_ok-symbols.symbols c.in_ok-symbol_flags.symbol_flags c.in_ok-references.references c.in_ok-unresolved.unresolved c.in_ok-evals.evals c.in_ok-names.names
+    let many : c.len-count.result ≡ length c.in_ok-symbols.symbols.symbols.items = counted c.args.tables c.requires c.as_slice-places.result.now known c.above_nodes-nodes.result rising c.above_nodes-nodes.ensures few scopes c.in_ok-symbols.symbols c.len-count.result are c.len-count.ensures in
+    is_scoping c.args.tables c.requires c.as_slice-places.result.now known c.above_nodes-nodes.result rising c.above_nodes-nodes.ensures few scopes c.in_ok-symbols.symbols c.in_ok-symbol_flags.symbol_flags c.in_ok-references.references c.in_ok-unresolved.unresolved c.in_ok-evals.evals c.in_ok-names.names
     c.as_slice-row.result.now c.len-count.result are is_row many c.in_ok-symbol_flags.ensures c.in_ok-references.ensures c.in_ok-unresolved.ensures c.in_ok-evals.ensures c.in_ok-names.ensures

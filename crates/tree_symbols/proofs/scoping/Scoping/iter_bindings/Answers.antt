@@ -13,4 +13,4 @@ new-requires c = record {
 pub returns : goal.returns
 returns c =
     let s = c.args.self.now in
-    c.new.ensures ∙ listings_told (places_of s) (length s.list.scopes.items) (length (scopes_of s)) s.symbols c.requires.symbols_are (scopes_many s.list)
+    c.new.ensures ∙ listings_told (places_of s) (length s.tables.list.scopes.items) (length (scopes_of s)) s.symbols c.requires.symbols_are (scopes_many s.tables.list)

@@ -12,4 +12,4 @@ symbol_at-requires c = some_below 4294967295 c.node_symbol.result (λ k e. c.req
 pub returns : goal.returns
 returns c =
     let ps = places_of c.args.self.now in
-    c.symbol_at.ensures ∙ c.node_symbol.ensures.symbol ps (length c.args.self.now.list.scopes.items) c.requires.symbols_are ∙ ap (λ (n : ℕ). node_symbol same_name ps n) c.index.ensures.value
+    c.symbol_at.ensures ∙ c.node_symbol.ensures.symbol ps (length c.args.self.now.tables.list.scopes.items) c.requires.symbols_are ∙ ap (λ (n : ℕ). node_symbol same_name ps n) c.index.ensures.value

@@ -10,14 +10,14 @@ use Rattle.tree_symbols.proofs.scoping.Scoping.scope_ancestors.Goals as goal
 
 pub new-requires : goal.new-requires
 new-requires c =
-    let l = c.args.self.now.list in
+    let l = c.args.self.now.tables.list in
     let many : length (scopes_of c.args.self.now) ≡ length l.scopes.items = scopes_many l in
     subst (λ (es : List ScopeEntry). LeadOutwards es (Some c.index.result)) (sym c.as_slice.ensures.value)
-    (record { comes_before = c.requires.scoping.bounded.scopes; few = c.requires.scoping.few_scopes; at = omega (arith, many, c.index.ensures.value, c.requires.id) })
+    (record { comes_before = c.requires.scoping.tables_are.bounded.scopes; few = c.requires.scoping.few_scopes; at = omega (arith, many, c.index.ensures.value, c.requires.id) })
 
 pub returns : goal.returns
 unfolding scopes_from
 returns c =
-    let l = c.args.self.now.list in
+    let l = c.args.self.now.tables.list in
     subst (λ (k : ℕ). IfSome (slice_get (scopes_of c.args.self.now) k) (λ s. c.new.result ≡ s)) c.index.ensures.value
     (of_scope l c.index.result (λ (s : Scope). c.new.result ≡ s) (c.new.ensures ∙ ap (λ (es : List ScopeEntry). scopes_from es (Some c.index.result)) c.as_slice.ensures.value))

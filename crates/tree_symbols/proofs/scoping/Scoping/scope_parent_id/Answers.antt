@@ -12,7 +12,7 @@ use Rattle.tree_symbols.proofs.scoping.Scoping.scope_parent_id.Goals as goal
 
 pub parent-requires-clause-scope : goal.parent-requires-clause-scope
 parent-requires-clause-scope c =
-    let many : length (scopes_of c.args.self.now) ≡ length c.args.self.now.list.scopes.items = scopes_many c.args.self.now.list in
+    let many : length (scopes_of c.args.self.now) ≡ length c.args.self.now.tables.list.scopes.items = scopes_many c.args.self.now.tables.list in
     omega (arith, many, c.index.ensures.value, c.requires.id)
 
 pub scope_at-requires : goal.scope_at-requires
@@ -20,7 +20,7 @@ scope_at-requires c = some_weaken c.index.result 4294967295 c.parent.result (let
 
 pub returns : goal.returns
 returns c =
-    let l = c.args.self.now.list in
+    let l = c.args.self.now.tables.list in
     let inside : c.index.result < length l.scopes.items = (let many : length (scopes_of c.args.self.now) ≡ length l.scopes.items = scopes_many l in omega (arith, many, c.index.ensures.value, c.requires.id)) in
     told_of (scopes_of c.args.self.now) (λ (s : Scope). c.parent.result ≡ parent_of s) (λ (s : Scope). option_map number_of c.scope_at.result ≡ parent_of s) c.index.result (number_of c.args.id) c.index.ensures.value
     (λ s e. c.scope_at.ensures ∙ e) (parent_told l c.index.result c.parent.result (lower (length l.scopes.items) c.index.result c.parent.result inside c.parent.ensures.below) c.parent.ensures.outwards)

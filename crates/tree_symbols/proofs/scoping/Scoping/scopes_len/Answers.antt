@@ -5,8 +5,8 @@ use Rattle.tree_symbols.proofs.scoping.Scoping.scopes_len.Goals as goal
 
 pub returns-clause-scopes : goal.returns-clause-scopes
 returns-clause-scopes c =
-    let many : c.len.result ≡ length c.args.self.now.list.scopes.items = omega (arith, c.len.ensures) in
-    many ∙ sym (scopes_many c.args.self.now.list)
+    let many : c.len.result ≡ length c.args.self.now.tables.list.scopes.items = omega (arith, c.len.ensures) in
+    many ∙ sym (scopes_many c.args.self.now.tables.list)
 
 pub returns-clause-few : goal.returns-clause-few
 returns-clause-few c = omega (arith, c.len.ensures, c.requires.few_scopes)

@@ -23,4 +23,4 @@ pub returns : goal.returns
 returns c =
     let ps = places_of c.args.self.now in
     told_of (symbols same_name ps) (λ (b : Place). c.declaration.result ≡ node b) (λ (b : Place). node_id.number_of c.from_usize.result ≡ node b) c.index.result (number_of c.args.id) c.index.ensures.value
-    (λ b e. c.from_usize.ensures ∙ e) (c.declaration.ensures.node ps (length c.args.self.now.list.scopes.items) c.requires.scoping.symbols_are)
+    (λ b e. c.from_usize.ensures ∙ e) (c.declaration.ensures.node ps (length c.args.self.now.tables.list.scopes.items) c.requires.scoping.symbols_are)

@@ -18,4 +18,4 @@ pub returns : goal.returns
 returns c =
     let ps = places_of c.args.self.now in
     told_of (symbols same_name ps) (λ (b : Place). c.name.result.now ≡ b.name) (λ (b : Place). ident_text c.new_const_ident.result ≡ b.name) c.index.result (number_of c.args.id) c.index.ensures.value
-    (λ b e. c.new_const_ident.ensures.text ∙ e) (c.name.ensures ps (length c.args.self.now.list.scopes.items) c.requires.scoping.symbols_are)
+    (λ b e. c.new_const_ident.ensures.text ∙ e) (c.name.ensures ps (length c.args.self.now.tables.list.scopes.items) c.requires.scoping.symbols_are)

@@ -35,4 +35,4 @@ returns-in-None c =
     own_name_told (slice_get (symbols same_name (places_of s)) (number_of c.args.id)) s.names.items c.index-k.result (number_of c.args.id) c.index.result.now c.name.result.now c.index-k.ensures.value inside c.index.ensures
     c.in-None.is
     (subst (λ (k : ℕ). IfSome (slice_get (symbols same_name (places_of s)) k) (λ (b : Place). c.name.result.now ≡ b.name)) c.index-k.ensures.value
-    (c.name.ensures (places_of s) (length s.list.scopes.items) c.requires.scoping.symbols_are))
+    (c.name.ensures (places_of s) (length s.tables.list.scopes.items) c.requires.scoping.symbols_are))

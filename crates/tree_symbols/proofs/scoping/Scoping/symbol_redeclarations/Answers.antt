@@ -14,4 +14,4 @@ redeclarations-requires c =
 pub returns : goal.returns
 returns c =
     let ps = places_of c.args.self.now in
-    c.redeclarations.ensures ps (length c.args.self.now.list.scopes.items) c.requires.scoping.symbols_are ∙ ap (λ (k : ℕ). redeclarations same_name ps k) c.index.ensures.value
+    c.redeclarations.ensures ps (length c.args.self.now.tables.list.scopes.items) c.requires.scoping.symbols_are ∙ ap (λ (k : ℕ). redeclarations same_name ps k) c.index.ensures.value

@@ -25,4 +25,4 @@ pub returns : goal.returns
 returns c =
     let ps = places_of c.args.self.now in
     told_of (symbols same_name ps) (λ (b : Place). c.home.result ≡ own_number (home b.site)) (λ (b : Place). scope_id.number_of c.scope_or_root.result ≡ or_root (own_number (home b.site))) c.index.result (number_of c.args.id) c.index.ensures.value
-    (λ b e. c.scope_or_root.ensures ∙ ap or_root e) (c.home.ensures.home ps (length c.args.self.now.list.scopes.items) c.requires.scoping.symbols_are)
+    (λ b e. c.scope_or_root.ensures ∙ ap or_root e) (c.home.ensures.home ps (length c.args.self.now.tables.list.scopes.items) c.requires.scoping.symbols_are)
