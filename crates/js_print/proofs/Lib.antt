@@ -1,0 +1,4 @@
+pub mod Options
+pub mod PartsAt
+pub mod Rows
+pub mod PrintedLists
