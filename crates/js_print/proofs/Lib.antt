@@ -2,3 +2,4 @@ pub mod Options
 pub mod PartsAt
 pub mod Rows
 pub mod PrintedLists
+pub mod ByKind

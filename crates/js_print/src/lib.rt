@@ -5,13 +5,13 @@ mod levels;
 mod operators;
 mod print;
 mod printable;
-mod print_tokens;
+mod printing;
+mod spelling;
 mod token;
 mod tokens;
-mod tokens_text;
 
-pub use print_tokens::{PrintError, print_tokens};
 pub use printable::is_printable;
+pub use printing::{PrintError, print_tokens};
+pub use spelling::tokens_text;
 pub use token::{PUNCTS, Token, puncts_are_those_of_the_grammar};
 pub use tokens::Tokens;
-pub use tokens_text::tokens_text;

@@ -25,7 +25,7 @@ pub enum PrintError {
 
 impl From<AllocError> for PrintError {
     ghost use Rattle.std.specs.Prelude.{◌≡◌};
-    ghost use Rattle.js_print.specs.declared.print_tokens.PrintError.TheVariants.{Memory};
+    ghost use Rattle.js_print.specs.declared.printing.PrintError.TheVariants.{Memory};
 
     ghost from_gives = { λ _ e. e ≡ Memory };
 
