@@ -1,10 +1,8 @@
 -- What a token is to one who reads an expression.
 use Rattle.std.proofs.Common.{◌≡◌, ℕ, Bool, true, false, List, [], ◌∷◌, inl, inr, ◌⊎◌, bytes_eq, get_or, if◌then◌else◌, refl, sym, ap, ◌∙◌}
 use Rattle.std.specs.Prelude.{codes}
-use Rattle.syntax_lex.specs.AssignmentOperator as assignment_text
 use Rattle.syntax_lex.specs.Keyword.{is_reserved_keyword, reserved_keywords}
 use Rattle.syntax_lex.specs.UnaryOperator as unary_text
-use Rattle.syntax_lex.specs.UpdateOperator as update_text
 use Rattle.syntax_lex.specs.declared.operator.assignment.AssignmentOperator.{AssignmentOperator}
 use Rattle.syntax_lex.specs.declared.operator.assignment.AssignmentOperator.TheVariants as assign
 use Rattle.syntax_lex.specs.declared.operator.binary.BinaryOperator.TheVariants as binary

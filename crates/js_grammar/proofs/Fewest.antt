@@ -6,7 +6,7 @@ use Rattle.syntax_lex.specs.declared.operator.logical.LogicalOperator.TheVariant
 use Rattle.js_grammar.specs.Derives.{Coalesces, Derives, Listed, Parts, array, assignment, between, call, coalescing, conditional, first, index, last, member, more, new, next, nothing, operand, parentheses, postfix, power, prefix, sequence, some, unary}
 use Rattle.js_grammar.specs.Laws.{PrintedTokensAreFewest}
 use Rattle.js_grammar.specs.Printed.{bare, is_over_call, left_level, level, parts, printed, right_level, with_comma, wrapped}
-use Rattle.js_grammar.specs.Shapes.{Array, Assign, COALESCE, Call, EXPONENTIAL, Index, Infix, Logical, Member, Operator, Shape, Shapes, also, infix_level, none}
+use Rattle.js_grammar.specs.Shapes.{COALESCE, Call, EXPONENTIAL, Index, Infix, Logical, Member, Operator, Shape, Shapes, also, infix_level, none}
 use Rattle.js_grammar.specs.Tokens.{CLOSE, CLOSE_SQUARE, COLON, COMMA, DOT, OPEN, OPEN_SQUARE, QUESTION, Token, Word, assign_token, infix_token, update_token}
 use Rattle.js_grammar.proofs.Levels.{member_level, part_levels}
 
@@ -28,9 +28,10 @@ pad_up j k l le = elim (pad_is j l) [ inl e ↦ omega (arith, e.1) | inr e ↦ e
 
 wrapped_length : (k l : ℕ) (ts : List Token) → length (wrapped k l ts) ≡ length ts + pad k l
 wrapped_length k l ts =
-    elim (leb_tells k l)
-      [ inl e ↦ ap (λ b. length (if b then ts else OPEN ∷ (ts ++ CLOSE ∷ []))) e.0 ∙ let p = pad_none k l e.1 in omega (arith, p)
-      | inr e ↦ ap (λ b. length (if b then ts else OPEN ∷ (ts ++ CLOSE ∷ []))) e.0 ∙ let p : pad k l ≡ 2 = ap (λ b. if b then 0 else 2) e.0 in omega (arith, p, length-append ts (CLOSE ∷ [])) ]
+    elim (leb_tells k l) [
+      | inl e ↦ ap (λ b. length (if b then ts else OPEN ∷ (ts ++ CLOSE ∷ []))) e.0 ∙ let p = pad_none k l e.1 in omega (arith, p)
+      | inr e ↦ ap (λ b. length (if b then ts else OPEN ∷ (ts ++ CLOSE ∷ []))) e.0 ∙ let p : pad k l ≡ 2 = ap (λ b. if b then 0 else 2) e.0 in omega (arith, p, length-append ts (CLOSE ∷ []))
+    ]
 
 over_call_level : (s : Shape) → is_over_call s ≡ true → level s ≡ 21
 over_call_level (Call s ss) e = refl
@@ -46,11 +47,13 @@ member_pad k l s h a b = go (is_over_call s) refl
     go false e = omega (arith, pad_none k 22 (omega arith), pad_up 21 l (level s) a)
     go true e =
         let v = over_call_level s e in
-        elim (pad_is k 21)
-          [ inl n ↦ omega (arith, n.1, pad_up 21 l (level s) a)
-          | inr n ↦ elim (pad_is l (level s))
-              [ inl d ↦ let no : ⊥ = omega (arith, d.0, v, n.0) in absurd no
-              | inr d ↦ omega (arith, d.1, n.1, pad_none 21 (level s) (omega (arith, v))) ] ]
+        elim (pad_is k 21) [
+          | inl n ↦ omega (arith, n.1, pad_up 21 l (level s) a)
+          | inr n ↦ elim (pad_is l (level s)) [
+            | inl d ↦ let no : ⊥ = omega (arith, d.0, v, n.0) in absurd no
+            | inr d ↦ omega (arith, d.1, n.1, pad_none 21 (level s) (omega (arith, v)))
+          ]
+        ]
 
 -- the printed length, level by level
 size : (k : ℕ) (s : Shape) → length (printed k s) ≡ length (bare s) + pad k (level s)

@@ -1,12 +1,12 @@
 -- Tokens are at most one expression: each derivation is what the reader reads.
-use Rattle.std.proofs.Common.{◌≡◌, ℕ, zero, suc, ◌+◌, ◌<◌, ◌≤◌, List, [], ◌∷◌, ◌++◌, Option, Some, None, refl, sym, ap, ◌∙◌, subst, arith, map, Bool, true, false, inl, inr, ◌⊎◌, if◌then◌else◌}
+use Rattle.std.proofs.Common.{◌≡◌, ℕ, suc, ◌+◌, ◌≤◌, List, [], ◌∷◌, ◌++◌, Option, Some, None, refl, sym, ap, ◌∙◌, subst, arith, map, Bool, false, inl, inr, ◌⊎◌, if◌then◌else◌}
 use Rattle.std.proofs.lemmas.Bool.{cases_lt}
 use Rattle.syntax_lex.specs.declared.operator.unary.UnaryOperator.{UnaryOperator}
 use Rattle.js_grammar.specs.Derives.{Coalesces, Derives, Listed, Parts, array, assignment, between, call, coalescing, conditional, first, index, last, member, more, new, next, nothing, operand, parentheses, postfix, power, prefix, sequence, some, unary}
 use Rattle.js_grammar.specs.Laws.{TokensDeriveOneShape}
 use Rattle.js_grammar.specs.Printed.{right_level}
-use Rattle.js_grammar.specs.Shapes.{Array, Assign, COALESCE, Call, Conditional, EXPONENTIAL, Index, Infix, Member, New, One, Postfix, Prefix, Sequence, Shape, Shapes, Unary, also, infix_level, none}
-use Rattle.js_grammar.specs.Tokens.{CLOSE, CLOSE_SQUARE, COLON, COMMA, DOT, NEW, OPEN, OPEN_SQUARE, QUESTION, Token, Word, assign_token, infix_token, unary_token, update_token}
+use Rattle.js_grammar.specs.Shapes.{Array, Assign, COALESCE, Call, Conditional, EXPONENTIAL, Index, Infix, Member, New, Prefix, Sequence, Shape, Shapes, Unary, also, infix_level, none}
+use Rattle.js_grammar.specs.Tokens.{CLOSE, CLOSE_SQUARE, COLON, COMMA, DOT, OPEN, OPEN_SQUARE, QUESTION, Token, Word, assign_token, infix_token, unary_token, update_token}
 use Rattle.js_grammar.proofs.Classes.{Asks, Class, Closes, ClosesSquare, Colons, Commas, Dots, News, Opens, OpensSquare, assign_class, class_of, goes_on, infix_goes_on, new_class, operand_class, text_of_word, unary_class, update_class}
 use Rattle.js_grammar.proofs.Levels.{left_range, part_levels}
 use Rattle.js_grammar.proofs.Reader.{Got, Stops, bind, branch, closes, closes_square, got, is_colon, is_comma, items, items_more, listed, listed_more, loop, loop_infix, loop_more, loop_stops, opens, past, read, read_more, read_unary, stops_up, takes}
@@ -109,9 +109,10 @@ record Lists (ts : List Token) (ss : Shapes) : Type 0 where
 
 value : {k : ℕ} {ts : List Token} {s : Shape} → Moves k ts s → (k ≡ 5 → ⊥) → (rest : List Class) → Stops k rest → (g : ℕ) × (read g k (classes ts ++ rest) ≡ got s rest)
 value {k} {ts} {s} m n rest st =
-    elim m.firm
-      [ inl le ↦ m.moves k (omega arith) rest (stops_up k m.edge rest le st) 1 (record { value = s; rest = rest }) (loop_stops k s rest st)
-      | inr e ↦ absurd (n e) ]
+    elim m.firm [
+      | inl le ↦ m.moves k (omega arith) rest (stops_up k m.edge rest le st) 1 (record { value = s; rest = rest }) (loop_stops k s rest st)
+      | inr e ↦ absurd (n e)
+    ]
 
 parts_listed : (ts : List Token) (ss : Shapes) → Starts (classes ts) → Runs ts ss → Lists ts ss
 parts_listed ts ss st p = record {
@@ -141,79 +142,89 @@ mutual
   transfer (parentheses {ts = us} {s = s} h d) =
       let t = transfer d in
       closed h (λ j le rest f r e.
-        let v = value t (λ x. let no : ⊥ = omega (arith, x) in no) (Closes ∷ rest) (omega arith) in
-        (suc (f + v.0), ap (λ ws. read (suc (f + v.0)) j (Opens ∷ ws)) (spread us CLOSE [] rest)
-          ∙ chain (read (f + v.0) 1 (classes us ++ Closes ∷ rest)) (λ x vs. past closes vs (λ ws. loop (f + v.0) j x ws)) s (Closes ∷ rest) r (read_more _ v.0 1 _ _ (omega arith) v.1) (loop_more _ f j s rest r (omega arith) e)))
+      let v = value t (λ x. let no : ⊥ = omega (arith, x) in no) (Closes ∷ rest) (omega arith) in (
+        suc (f + v.0),
+        ap (λ ws. read (suc (f + v.0)) j (Opens ∷ ws)) (spread us CLOSE [] rest)
+            ∙ chain (read (f + v.0) 1 (classes us ++ Closes ∷ rest)) (λ x vs. past closes vs (λ ws. loop (f + v.0) j x ws)) s (Closes ∷ rest) r (read_more _ v.0 1 _ _ (omega arith) v.1) (loop_more _ f j s rest r (omega arith) e),
+      ))
   transfer (array {ts = us} {ss = ss} h p) =
       let q = listed_moves p in
       closed h (λ j le rest f r e.
-        let v = q.square rest in
-        (suc (f + v.0), ap (λ ws. read (suc (f + v.0)) j (OpensSquare ∷ ws)) (spread us CLOSE_SQUARE [] rest)
-          ∙ chain (listed (f + v.0) closes_square (classes us ++ ClosesSquare ∷ rest)) (λ xs vs. loop (f + v.0) j (Array xs) vs) ss rest r (listed_more _ v.0 closes_square _ _ (omega arith) v.1) (loop_more _ f j (Array ss) rest r (omega arith) e)))
+      let v = q.square rest in (
+        suc (f + v.0),
+        ap (λ ws. read (suc (f + v.0)) j (OpensSquare ∷ ws)) (spread us CLOSE_SQUARE [] rest)
+            ∙ chain (listed (f + v.0) closes_square (classes us ++ ClosesSquare ∷ rest)) (λ xs vs. loop (f + v.0) j (Array xs) vs) ss rest r (listed_more _ v.0 closes_square _ _ (omega arith) v.1) (loop_more _ f j (Array ss) rest r (omega arith) e),
+      ))
   transfer (new {ts = ts} {us = us} {s = s} {ss = ss} h d p) =
       let t = transfer d in
       let q = listed_moves p in
       closed (omega arith) (λ j le rest f r e.
-        let v = value t (λ x. let no : ⊥ = omega (arith, x) in no) (Opens ∷ (classes us ++ Closes ∷ rest)) (omega arith) in
-        let w = q.round rest in
-        let m = f + v.0 + w.0 in
-        (suc m, ap (λ c. read (suc m) j (c ∷ (classes (ts ++ OPEN ∷ (us ++ CLOSE ∷ [])) ++ rest))) new_class
-          ∙ ap (λ ws. read (suc m) j (News ∷ ws)) (seam ts OPEN us CLOSE rest)
-          ∙ chain (read m 22 (classes ts ++ Opens ∷ (classes us ++ Closes ∷ rest))) (λ x vs. past opens vs (λ ws. bind (listed m closes ws) (λ xs zs. loop m j (New x xs) zs))) s (Opens ∷ (classes us ++ Closes ∷ rest)) r (read_more m v.0 22 _ _ (omega arith) v.1)
-              (chain (listed m closes (classes us ++ Closes ∷ rest)) (λ xs zs. loop m j (New s xs) zs) ss rest r (listed_more m w.0 closes _ _ (omega arith) w.1) (loop_more m f j (New s ss) rest r (omega arith) e))))
+      let v = value t (λ x. let no : ⊥ = omega (arith, x) in no) (Opens ∷ (classes us ++ Closes ∷ rest)) (omega arith) in
+      let w = q.round rest in
+      let m = f + v.0 + w.0 in (
+        suc m,
+        ap (λ c. read (suc m) j (c ∷ (classes (ts ++ OPEN ∷ (us ++ CLOSE ∷ [])) ++ rest))) new_class
+            ∙ ap (λ ws. read (suc m) j (News ∷ ws)) (seam ts OPEN us CLOSE rest)
+            ∙ chain (read m 22 (classes ts ++ Opens ∷ (classes us ++ Closes ∷ rest))) (λ x vs. past opens vs (λ ws. bind (listed m closes ws) (λ xs zs. loop m j (New x xs) zs))) s (Opens ∷ (classes us ++ Closes ∷ rest)) r (read_more m v.0 22 _ _ (omega arith) v.1)
+            (chain (listed m closes (classes us ++ Closes ∷ rest)) (λ xs zs. loop m j (New s xs) zs) ss rest r (listed_more m w.0 closes _ _ (omega arith) w.1) (loop_more m f j (New s ss) rest r (omega arith) e)),
+      ))
   transfer (member {ts = ts} {s = s} {w = n} h l l' d) =
       let t = transfer d in
       closed (omega arith) (λ j le rest f r e.
-        let step = takes j 22 _ _ (omega arith) ∙ ap (λ x. loop f j (Member s x) rest) (text_of_word n) ∙ e in
-        let v = t.moves j (omega arith) (Dots ∷ class_of (Word n) ∷ rest) (omega (arith, t.wide (omega arith))) (suc f) r step in
-        (v.0, ap (λ ws. read v.0 j ws) (spread ts DOT (Word n ∷ []) rest) ∙ v.1))
+      let step = takes j 22 _ _ (omega arith) ∙ ap (λ x. loop f j (Member s x) rest) (text_of_word n) ∙ e in
+      let v = t.moves j (omega arith) (Dots ∷ class_of (Word n) ∷ rest) (omega (arith, t.wide (omega arith))) (suc f) r step in
+      (v.0, ap (λ ws. read v.0 j ws) (spread ts DOT (Word n ∷ []) rest) ∙ v.1))
   transfer (index {ts = ts} {us = us} {s = s} {x = x} h l l' d i) =
       let t = transfer d in
       let t2 = transfer i in
       closed (omega arith) (λ j le rest f r e.
-        let w = value t2 (λ y. let no : ⊥ = omega (arith, y) in no) (ClosesSquare ∷ rest) (omega arith) in
-        let m = f + w.0 in
-        let step = takes j 22 _ _ (omega arith) ∙ chain (read m 1 (classes us ++ ClosesSquare ∷ rest)) (λ y vs. past closes_square vs (λ zs. loop m j (Index s y) zs)) x (ClosesSquare ∷ rest) r (read_more m w.0 1 _ _ (omega arith) w.1) (loop_more m f j (Index s x) rest r (omega arith) e) in
-        let v = t.moves j (omega arith) (OpensSquare ∷ (classes us ++ ClosesSquare ∷ rest)) (omega (arith, t.wide (omega arith))) (suc m) r step in
-        (v.0, ap (λ ws. read v.0 j ws) (seam ts OPEN_SQUARE us CLOSE_SQUARE rest) ∙ v.1))
+      let w = value t2 (λ y. let no : ⊥ = omega (arith, y) in no) (ClosesSquare ∷ rest) (omega arith) in
+      let m = f + w.0 in
+      let step = takes j 22 _ _ (omega arith) ∙ chain (read m 1 (classes us ++ ClosesSquare ∷ rest)) (λ y vs. past closes_square vs (λ zs. loop m j (Index s y) zs)) x (ClosesSquare ∷ rest) r (read_more m w.0 1 _ _ (omega arith) w.1) (loop_more m f j (Index s x) rest r (omega arith) e) in
+      let v = t.moves j (omega arith) (OpensSquare ∷ (classes us ++ ClosesSquare ∷ rest)) (omega (arith, t.wide (omega arith))) (suc m) r step in
+      (v.0, ap (λ ws. read v.0 j ws) (seam ts OPEN_SQUARE us CLOSE_SQUARE rest) ∙ v.1))
   transfer (call {ts = ts} {us = us} {s = s} {ss = ss} h d p) =
       let t = transfer d in
       let q = listed_moves p in
       closed (omega arith) (λ j le rest f r e.
-        let w = q.round rest in
-        let m = f + w.0 in
-        let step = takes j 21 _ _ (omega arith) ∙ chain (listed m closes (classes us ++ Closes ∷ rest)) (λ xs zs. loop m j (Call s xs) zs) ss rest r (listed_more m w.0 closes _ _ (omega arith) w.1) (loop_more m f j (Call s ss) rest r (omega arith) e) in
-        let v = t.moves j (omega arith) (Opens ∷ (classes us ++ Closes ∷ rest)) (omega (arith, t.wide (omega arith))) (suc m) r step in
-        (v.0, ap (λ ws. read v.0 j ws) (seam ts OPEN us CLOSE rest) ∙ v.1))
+      let w = q.round rest in
+      let m = f + w.0 in
+      let step = takes j 21 _ _ (omega arith) ∙ chain (listed m closes (classes us ++ Closes ∷ rest)) (λ xs zs. loop m j (Call s xs) zs) ss rest r (listed_more m w.0 closes _ _ (omega arith) w.1) (loop_more m f j (Call s ss) rest r (omega arith) e) in
+      let v = t.moves j (omega arith) (Opens ∷ (classes us ++ Closes ∷ rest)) (omega (arith, t.wide (omega arith))) (suc m) r step in
+      (v.0, ap (λ ws. read v.0 j ws) (seam ts OPEN us CLOSE rest) ∙ v.1))
   transfer (postfix {o = o} {ts = ts} {s = s} h d g) =
       let t = transfer d in
       let n : goes_on (class_of (update_token o)) ≡ 19 = ap goes_on (update_class o) in
       closed (omega arith) (λ j le rest f r e.
-        let step = ap (λ c. loop (suc f) j s (c ∷ rest)) (update_class o) ∙ takes j 19 _ _ (omega arith) ∙ e in
-        let v = t.moves j (omega arith) (class_of (update_token o) ∷ rest) (omega (arith, n, t.wide (omega arith))) (suc f) r step in
-        (v.0, ap (λ ws. read v.0 j ws) (spread ts (update_token o) [] rest) ∙ v.1))
+      let step = ap (λ c. loop (suc f) j s (c ∷ rest)) (update_class o) ∙ takes j 19 _ _ (omega arith) ∙ e in
+      let v = t.moves j (omega arith) (class_of (update_token o) ∷ rest) (omega (arith, n, t.wide (omega arith))) (suc f) r step in
+      (v.0, ap (λ ws. read v.0 j ws) (spread ts (update_token o) [] rest) ∙ v.1))
   transfer (prefix {o = o} {ts = ts} {s = s} h d g) =
       let t = transfer d in
       ends 18 h (λ a b. omega arith) h (λ j le rest st f r e.
-        let v = value t (λ x. let no : ⊥ = omega (arith, x) in no) rest st in
-        (suc (f + v.0), ap (λ c. read (suc (f + v.0)) j (c ∷ (classes ts ++ rest))) (update_class o)
-          ∙ after 18 (classes ts ++ rest) s rest v.0 f j (Prefix o s) r v.1 e (λ x us. loop (f + v.0) j (Prefix o x) us) refl))
+      let v = value t (λ x. let no : ⊥ = omega (arith, x) in no) rest st in (
+        suc (f + v.0),
+        ap (λ c. read (suc (f + v.0)) j (c ∷ (classes ts ++ rest))) (update_class o)
+            ∙ after 18 (classes ts ++ rest) s rest v.0 f j (Prefix o s) r v.1 e (λ x us. loop (f + v.0) j (Prefix o x) us) refl,
+      ))
   transfer (unary {o = o} {ts = ts} {s = s} h d) =
       let t = transfer d in
       ends 18 h (λ a b. omega arith) h (λ j le rest st f r e.
-        let v = value t (λ x. let no : ⊥ = omega (arith, x) in no) rest st in
-        (suc (f + v.0), read_unary o (f + v.0) j (classes ts ++ rest)
-          ∙ after 18 (classes ts ++ rest) s rest v.0 f j (Unary o s) r v.1 e (λ x us. loop (f + v.0) j (Unary o x) us) refl))
+      let v = value t (λ x. let no : ⊥ = omega (arith, x) in no) rest st in (
+        suc (f + v.0),
+        read_unary o (f + v.0) j (classes ts ++ rest)
+            ∙ after 18 (classes ts ++ rest) s rest v.0 f j (Unary o s) r v.1 e (λ x us. loop (f + v.0) j (Unary o x) us) refl,
+      ))
   transfer (power {a = a} {b = b} {x = x} {y = y} h d d2) =
       let t = transfer d in
       let t2 = transfer d2 in
       let n : goes_on (class_of (infix_token EXPONENTIAL)) ≡ 17 = infix_goes_on EXPONENTIAL in
       ends 17 h (λ k l. omega arith) (omega arith) (λ j le rest st f r e.
-        let w = value t2 (λ z. let no : ⊥ = omega (arith, z) in no) rest st in
-        let m = f + w.0 in
-        let step = loop_infix EXPONENTIAL m j x (classes b ++ rest) (omega arith) ∙ after 17 (classes b ++ rest) y rest w.0 f j (Infix EXPONENTIAL x y) r w.1 e (λ z us. loop m j (Infix EXPONENTIAL x z) us) refl in
-        let v = t.moves j (omega arith) (class_of (infix_token EXPONENTIAL) ∷ (classes b ++ rest)) (omega (arith, n, t.wide (omega arith))) (suc m) r step in
-        (v.0, ap (λ ws. read v.0 j ws) (spread a (infix_token EXPONENTIAL) b rest) ∙ v.1))
+      let w = value t2 (λ z. let no : ⊥ = omega (arith, z) in no) rest st in
+      let m = f + w.0 in
+      let step = loop_infix EXPONENTIAL m j x (classes b ++ rest) (omega arith) ∙ after 17 (classes b ++ rest) y rest w.0 f j (Infix EXPONENTIAL x y) r w.1 e (λ z us. loop m j (Infix EXPONENTIAL x z) us) refl in
+      let v = t.moves j (omega arith) (class_of (infix_token EXPONENTIAL) ∷ (classes b ++ rest)) (omega (arith, n, t.wide (omega arith))) (suc m) r step in
+      (v.0, ap (λ ws. read v.0 j ws) (spread a (infix_token EXPONENTIAL) b rest) ∙ v.1))
   transfer (between {o = o} {a = a} {b = b} {x = x} {y = y} is h d d2) =
       let t = transfer d in
       let t2 = transfer d2 in
@@ -221,11 +232,11 @@ mutual
       let right : right_level o ≡ suc (infix_level o) = (part_levels o x is).1 in
       let n = infix_goes_on o in
       ends (suc (infix_level o)) (omega arith) (λ k l. omega arith) (omega (arith, range.1)) (λ j le rest st f r e.
-        let w = value t2 (λ z. let no : ⊥ = omega (arith, z, range.0) in no) rest st in
-        let m = f + w.0 in
-        let step = loop_infix o m j x (classes b ++ rest) (omega arith) ∙ after (right_level o) (classes b ++ rest) y rest w.0 f j (Infix o x y) r (ap (λ l. read w.0 l (classes b ++ rest)) right ∙ w.1) e (λ z us. loop m j (Infix o x z) us) refl in
-        let v = t.moves j (omega arith) (class_of (infix_token o) ∷ (classes b ++ rest)) (omega (arith, n, t.strict (omega (arith, range.0)) range.1)) (suc m) r step in
-        (v.0, ap (λ ws. read v.0 j ws) (spread a (infix_token o) b rest) ∙ v.1))
+      let w = value t2 (λ z. let no : ⊥ = omega (arith, z, range.0) in no) rest st in
+      let m = f + w.0 in
+      let step = loop_infix o m j x (classes b ++ rest) (omega arith) ∙ after (right_level o) (classes b ++ rest) y rest w.0 f j (Infix o x y) r (ap (λ l. read w.0 l (classes b ++ rest)) right ∙ w.1) e (λ z us. loop m j (Infix o x z) us) refl in
+      let v = t.moves j (omega arith) (class_of (infix_token o) ∷ (classes b ++ rest)) (omega (arith, n, t.strict (omega (arith, range.0)) range.1)) (suc m) r step in
+      (v.0, ap (λ ws. read v.0 j ws) (spread a (infix_token o) b rest) ∙ v.1))
   transfer (coalescing h c) =
       let t = row_moves c in
       ends 9 (omega arith) (λ k l. omega arith) (omega arith) (λ j le rest st f r e. t.moves j (omega arith) rest st f r e)
@@ -233,81 +244,92 @@ mutual
       let t = transfer d in
       let t2 = transfer d2 in
       let t3 = transfer d3 in
-      record
-        { edge = 4
-        ; firm = elim (cases_lt 4 k0) [ inl l ↦ inr (omega arith) | inr l ↦ inl (omega arith) ]
-        ; strict = λ k l. let no : ⊥ = omega arith in absurd no
-        ; wide = λ k. let no : ⊥ = omega arith in absurd no
-        ; moves = λ j le rest st f r e.
+      record {
+        edge = 4;
+        firm = elim (cases_lt 4 k0) [ inl l ↦ inr (omega arith) | inr l ↦ inl (omega arith) ];
+        strict = λ k l. let no : ⊥ = omega arith in absurd no;
+        wide = λ k. let no : ⊥ = omega arith in absurd no;
+        moves = λ j le rest st f r e.
             let w = value t2 (λ q. let no : ⊥ = omega (arith, q) in no) (Colons ∷ (classes c ++ rest)) (omega arith) in
             let w3 = value t3 (λ q. let no : ⊥ = omega (arith, q) in no) rest st in
             let m = f + w.0 + w3.0 in
             let step = takes j 5 _ _ (omega arith)
-                ∙ chain (read m 4 (classes b ++ Colons ∷ (classes c ++ rest))) (λ q us. past is_colon us (λ vs. bind (read m 4 vs) (λ p ws. loop m j (Conditional x q p) ws))) y (Colons ∷ (classes c ++ rest)) r (read_more m w.0 4 _ _ (omega arith) w.1)
-                    (chain (read m 4 (classes c ++ rest)) (λ p ws. loop m j (Conditional x y p) ws) z rest r (read_more m w3.0 4 _ _ (omega arith) w3.1) (loop_more m f j (Conditional x y z) rest r (omega arith) e)) in
+            ∙ chain (read m 4 (classes b ++ Colons ∷ (classes c ++ rest))) (λ q us. past is_colon us (λ vs. bind (read m 4 vs) (λ p ws. loop m j (Conditional x q p) ws))) y (Colons ∷ (classes c ++ rest)) r (read_more m w.0 4 _ _ (omega arith) w.1)
+            (chain (read m 4 (classes c ++ rest)) (λ p ws. loop m j (Conditional x y p) ws) z rest r (read_more m w3.0 4 _ _ (omega arith) w3.1) (loop_more m f j (Conditional x y z) rest r (omega arith) e)) in
             let fm : 6 ≤ t.edge = elim t.firm [ inl q ↦ q | inr q ↦ let no : ⊥ = omega (arith, q) in absurd no ] in
             let v = t.moves j (omega arith) (Asks ∷ (classes b ++ Colons ∷ (classes c ++ rest))) (omega (arith, fm)) (suc m) r step in
-            (v.0, ap (λ ws. read v.0 j ws) (spread a QUESTION (b ++ COLON ∷ c) rest ∙ ap (λ ws. classes a ++ Asks ∷ ws) (spread b COLON c rest)) ∙ v.1) }
+            (v.0, ap (λ ws. read v.0 j ws) (spread a QUESTION (b ++ COLON ∷ c) rest ∙ ap (λ ws. classes a ++ Asks ∷ ws) (spread b COLON c rest)) ∙ v.1);
+      }
   transfer (assignment {o = o} {a = a} {b = b} {x = x} {y = y} h d g d2) =
       let t = transfer d in
       let t2 = transfer d2 in
       let n : goes_on (class_of (assign_token o)) ≡ 4 = ap goes_on (assign_class o) in
       ends 4 h (λ k l. let no : ⊥ = omega arith in absurd no) (omega arith) (λ j le rest st f r e.
-        let w = value t2 (λ z. let no : ⊥ = omega (arith, z) in no) rest st in
-        let m = f + w.0 in
-        let step = ap (λ c. loop (suc m) j x (c ∷ (classes b ++ rest))) (assign_class o) ∙ takes j 4 _ _ (omega arith) ∙ after 4 (classes b ++ rest) y rest w.0 f j (Assign o x y) r w.1 e (λ z us. loop m j (Assign o x z) us) refl in
-        let v = t.moves j (omega arith) (class_of (assign_token o) ∷ (classes b ++ rest)) (omega (arith, n, t.wide (omega arith))) (suc m) r step in
-        (v.0, ap (λ ws. read v.0 j ws) (spread a (assign_token o) b rest) ∙ v.1))
+      let w = value t2 (λ z. let no : ⊥ = omega (arith, z) in no) rest st in
+      let m = f + w.0 in
+      let step = ap (λ c. loop (suc m) j x (c ∷ (classes b ++ rest))) (assign_class o) ∙ takes j 4 _ _ (omega arith) ∙ after 4 (classes b ++ rest) y rest w.0 f j (Assign o x y) r w.1 e (λ z us. loop m j (Assign o x z) us) refl in
+      let v = t.moves j (omega arith) (class_of (assign_token o) ∷ (classes b ++ rest)) (omega (arith, n, t.wide (omega arith))) (suc m) r step in
+      (v.0, ap (λ ws. read v.0 j ws) (spread a (assign_token o) b rest) ∙ v.1))
   transfer (sequence {a = a} {b = b} {x = x} {ss = ss} h d p) =
       let t = transfer d in
       let q = parts_moves p in
       ends 1 h (λ k l. let no : ⊥ = omega arith in absurd no) (omega arith) (λ j le rest st f r e.
-        let w = q.runs rest st in
-        let m = f + w.0 in
-        let fm : 4 ≤ t.edge = elim t.firm [ inl z ↦ z | inr z ↦ let no : ⊥ = omega (arith, z) in absurd no ] in
-        let step = takes j 1 _ _ (omega arith) ∙ chain (items m (classes b ++ rest)) (λ xs us. loop m j (Sequence x xs) us) ss rest r (items_more m w.0 _ _ (omega arith) w.1) (loop_more m f j (Sequence x ss) rest r (omega arith) e) in
-        let v = t.moves j (omega arith) (Commas ∷ (classes b ++ rest)) (omega (arith, fm)) (suc m) r step in
-        (v.0, ap (λ ws. read v.0 j ws) (spread a COMMA b rest) ∙ v.1))
+      let w = q.runs rest st in
+      let m = f + w.0 in
+      let fm : 4 ≤ t.edge = elim t.firm [ inl z ↦ z | inr z ↦ let no : ⊥ = omega (arith, z) in absurd no ] in
+      let step = takes j 1 _ _ (omega arith) ∙ chain (items m (classes b ++ rest)) (λ xs us. loop m j (Sequence x xs) us) ss rest r (items_more m w.0 _ _ (omega arith) w.1) (loop_more m f j (Sequence x ss) rest r (omega arith) e) in
+      let v = t.moves j (omega arith) (Commas ∷ (classes b ++ rest)) (omega (arith, fm)) (suc m) r step in
+      (v.0, ap (λ ws. read v.0 j ws) (spread a COMMA b rest) ∙ v.1))
 
   row_moves : {ts : List Token} {s : Shape} → Coalesces ts s → RowMoves ts s
   row_moves (first {a = a} {b = b} {x = x} {y = y} d d2) =
       let t = transfer d in
       let t2 = transfer d2 in
       let n : goes_on (class_of (infix_token COALESCE)) ≡ 6 = infix_goes_on COALESCE in
-      record { moves = λ j le rest st f r e.
-        let w = value t2 (λ z. let no : ⊥ = omega (arith, z) in no) rest st in
-        let m = f + w.0 in
-        let step = loop_infix COALESCE m j x (classes b ++ rest) le ∙ after 9 (classes b ++ rest) y rest w.0 f j (Infix COALESCE x y) r w.1 e (λ z us. loop m j (Infix COALESCE x z) us) refl in
-        let fm : 9 ≤ t.edge = elim t.firm [ inl z ↦ z | inr z ↦ let no : ⊥ = omega (arith, z) in absurd no ] in
-        let v = t.moves j (omega arith) (class_of (infix_token COALESCE) ∷ (classes b ++ rest)) (omega (arith, n, fm)) (suc m) r step in
-        (v.0, ap (λ ws. read v.0 j ws) (spread a (infix_token COALESCE) b rest) ∙ v.1) }
+      record {
+        moves = λ j le rest st f r e.
+            let w = value t2 (λ z. let no : ⊥ = omega (arith, z) in no) rest st in
+            let m = f + w.0 in
+            let step = loop_infix COALESCE m j x (classes b ++ rest) le ∙ after 9 (classes b ++ rest) y rest w.0 f j (Infix COALESCE x y) r w.1 e (λ z us. loop m j (Infix COALESCE x z) us) refl in
+            let fm : 9 ≤ t.edge = elim t.firm [ inl z ↦ z | inr z ↦ let no : ⊥ = omega (arith, z) in absurd no ] in
+            let v = t.moves j (omega arith) (class_of (infix_token COALESCE) ∷ (classes b ++ rest)) (omega (arith, n, fm)) (suc m) r step in
+            (v.0, ap (λ ws. read v.0 j ws) (spread a (infix_token COALESCE) b rest) ∙ v.1);
+      }
   row_moves (next {a = a} {b = b} {x = x} {y = y} c d2) =
       let t = row_moves c in
       let t2 = transfer d2 in
       let n : goes_on (class_of (infix_token COALESCE)) ≡ 6 = infix_goes_on COALESCE in
-      record { moves = λ j le rest st f r e.
-        let w = value t2 (λ z. let no : ⊥ = omega (arith, z) in no) rest st in
-        let m = f + w.0 in
-        let step = loop_infix COALESCE m j x (classes b ++ rest) le ∙ after 9 (classes b ++ rest) y rest w.0 f j (Infix COALESCE x y) r w.1 e (λ z us. loop m j (Infix COALESCE x z) us) refl in
-        let v = t.moves j (omega arith) (class_of (infix_token COALESCE) ∷ (classes b ++ rest)) (omega (arith, n)) (suc m) r step in
-        (v.0, ap (λ ws. read v.0 j ws) (spread a (infix_token COALESCE) b rest) ∙ v.1) }
+      record {
+        moves = λ j le rest st f r e.
+            let w = value t2 (λ z. let no : ⊥ = omega (arith, z) in no) rest st in
+            let m = f + w.0 in
+            let step = loop_infix COALESCE m j x (classes b ++ rest) le ∙ after 9 (classes b ++ rest) y rest w.0 f j (Infix COALESCE x y) r w.1 e (λ z us. loop m j (Infix COALESCE x z) us) refl in
+            let v = t.moves j (omega arith) (class_of (infix_token COALESCE) ∷ (classes b ++ rest)) (omega (arith, n)) (suc m) r step in
+            (v.0, ap (λ ws. read v.0 j ws) (spread a (infix_token COALESCE) b rest) ∙ v.1);
+      }
 
   parts_moves : {ts : List Token} {ss : Shapes} → Parts ts ss → Runs ts ss
   parts_moves (last {a = a} {x = x} d) =
       let t = transfer d in
-      record { runs = λ rest st.
-        let v = value t (λ z. let no : ⊥ = omega (arith, z) in no) rest (stops_up 1 4 rest (omega arith) st) in
-        (suc v.0, chain (read v.0 4 (classes a ++ rest)) (λ s us. branch is_comma us (λ vs. bind (items v.0 vs) (λ ss ws. got (also s ss) ws)) (got (also s none) us)) x rest _ v.1 (no_comma rest _ _ st)) }
+      record {
+        runs = λ rest st.
+            let v = value t (λ z. let no : ⊥ = omega (arith, z) in no) rest (stops_up 1 4 rest (omega arith) st) in
+            (suc v.0, chain (read v.0 4 (classes a ++ rest)) (λ s us. branch is_comma us (λ vs. bind (items v.0 vs) (λ ss ws. got (also s ss) ws)) (got (also s none) us)) x rest _ v.1 (no_comma rest _ _ st));
+      }
   parts_moves (more {a = a} {b = b} {x = x} {ss = ss} d p) =
       let t = transfer d in
       let q = parts_moves p in
-      record { runs = λ rest st.
-        let v = value t (λ z. let no : ⊥ = omega (arith, z) in no) (Commas ∷ (classes b ++ rest)) (omega arith) in
-        let w = q.runs rest st in
-        let m = v.0 + w.0 in
-        (suc m, ap (λ ws. items (suc m) ws) (spread a COMMA b rest)
-          ∙ chain (read m 4 (classes a ++ Commas ∷ (classes b ++ rest))) (λ s us. branch is_comma us (λ vs. bind (items m vs) (λ xs ws. got (also s xs) ws)) (got (also s none) us)) x (Commas ∷ (classes b ++ rest)) _ (read_more m v.0 4 _ _ (omega arith) v.1)
-              (chain (items m (classes b ++ rest)) (λ xs ws. got (also x xs) ws) ss rest _ (items_more m w.0 _ _ (omega arith) w.1) refl)) }
+      record {
+        runs = λ rest st.
+            let v = value t (λ z. let no : ⊥ = omega (arith, z) in no) (Commas ∷ (classes b ++ rest)) (omega arith) in
+            let w = q.runs rest st in
+            let m = v.0 + w.0 in (
+              suc m,
+              ap (λ ws. items (suc m) ws) (spread a COMMA b rest)
+                  ∙ chain (read m 4 (classes a ++ Commas ∷ (classes b ++ rest))) (λ s us. branch is_comma us (λ vs. bind (items m vs) (λ xs ws. got (also s xs) ws)) (got (also s none) us)) x (Commas ∷ (classes b ++ rest)) _ (read_more m v.0 4 _ _ (omega arith) v.1)
+                  (chain (items m (classes b ++ rest)) (λ xs ws. got (also x xs) ws) ss rest _ (items_more m w.0 _ _ (omega arith) w.1) refl),
+            );
+      }
 
   listed_moves : {ts : List Token} {ss : Shapes} → Listed ts ss → Lists ts ss
   listed_moves nothing = record { round = λ rest. (1, refl); square = λ rest. (1, refl) }

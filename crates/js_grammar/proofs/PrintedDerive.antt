@@ -39,9 +39,10 @@ positive _ = omega arith
 -- in parentheses where the level asks for it
 at_level : (k : ℕ) (s : Shape) → k ≤ 23 → Derives (level s) (bare s) s → Derives k (printed k s) s
 at_level k s h d =
-    elim (leb_tells k (level s))
-      [ inl e ↦ subst (λ b. Derives k (if b then bare s else OPEN ∷ (bare s ++ CLOSE ∷ [])) s) (sym e.0) (lower e.1 d)
-      | inr e ↦ subst (λ b. Derives k (if b then bare s else OPEN ∷ (bare s ++ CLOSE ∷ [])) s) (sym e.0) (parentheses h (lower (positive s) d)) ]
+    elim (leb_tells k (level s)) [
+      | inl e ↦ subst (λ b. Derives k (if b then bare s else OPEN ∷ (bare s ++ CLOSE ∷ [])) s) (sym e.0) (lower e.1 d)
+      | inr e ↦ subst (λ b. Derives k (if b then bare s else OPEN ∷ (bare s ++ CLOSE ∷ [])) s) (sym e.0) (parentheses h (lower (positive s) d))
+    ]
 
 member_not_21 : (b : Bool) → b ≡ false → member_level b ≡ 21 → ⊥
 member_not_21 true e l = true≢false e
@@ -58,11 +59,12 @@ not_21 _ e l = omega arith
 -- so its printed form at 21 serves at 22
 at_22 : (s : Shape) → is_over_call s ≡ false → Derives (level s) (bare s) s → Derives 22 (printed 21 s) s
 at_22 s e d =
-    elim (leb_tells 21 (level s))
-      [ inl g ↦ let n = not_21 s e in
+    elim (leb_tells 21 (level s)) [
+      | inl g ↦ let n = not_21 s e in
           let m : 22 ≤ level s = elim (cases_lt 21 (level s)) [ inl lt ↦ omega arith | inr ge ↦ absurd (n (omega (arith, g.1))) ] in
           subst (λ b. Derives 22 (if b then bare s else OPEN ∷ (bare s ++ CLOSE ∷ [])) s) (sym g.0) (lower m d)
-      | inr g ↦ subst (λ b. Derives 22 (if b then bare s else OPEN ∷ (bare s ++ CLOSE ∷ [])) s) (sym g.0) (parentheses (omega arith) (lower (positive s) d)) ]
+      | inr g ↦ subst (λ b. Derives 22 (if b then bare s else OPEN ∷ (bare s ++ CLOSE ∷ [])) s) (sym g.0) (parentheses (omega arith) (lower (positive s) d))
+    ]
 
 -- the object of a member, at the member's level
 object : (s : Shape) → Derives (level s) (bare s) s → Derives (member_level (is_over_call s)) (printed 21 s) s
@@ -92,7 +94,7 @@ between_made o x y g p q =
     let a = at_level (infix_level o) x (omega (arith, r.1)) p.derives in
     let b = at_level (suc (infix_level o)) y (omega (arith, r.1)) q.derives in
     subst (λ l. Derives (infix_level o) (printed l x ++ infix_token o ∷ printed (right_level o) y) (Infix o x y)) (sym v.0)
-      (subst (λ l. Derives (infix_level o) (printed (infix_level o) x ++ infix_token o ∷ printed l y) (Infix o x y)) (sym v.1) (between g (omega arith) a b))
+    (subst (λ l. Derives (infix_level o) (printed (infix_level o) x ++ infix_token o ∷ printed l y) (Infix o x y)) (sym v.1) (between g (omega arith) a b))
 
 infix_made : (o : Operator) (x y : Shape) → Made x → Made y → Made (Infix o x y)
 infix_made (Binary Exponential) x y p q = record { derives = power (omega arith) (at_level 19 x (omega arith) p.derives) (at_level 17 y (omega arith) q.derives); chain = tt }

@@ -204,12 +204,14 @@ loop_stops k s (_ ∷ ts) st = refl
 
 pub loop_infix : (o : Operator) (m j : ℕ) (x : Shape) (w : List Class) → j ≤ infix_level o → loop (suc m) j x (class_of (infix_token o) ∷ w) ≡ bind (read m (right_level o) w) (λ y us. loop m j (Infix o x y) us)
 loop_infix o m j x w le =
-    elim (infix_class o)
-      [ inl e ↦ ap (λ c. loop (suc m) j x (c ∷ w)) e ∙ takes j (infix_level o) _ _ le
-      | inr e ↦ ap (λ c. loop (suc m) j x (c ∷ w)) e.1 ∙ takes j (infix_level o) _ _ le ]
+    elim (infix_class o) [
+      | inl e ↦ ap (λ c. loop (suc m) j x (c ∷ w)) e ∙ takes j (infix_level o) _ _ le
+      | inr e ↦ ap (λ c. loop (suc m) j x (c ∷ w)) e.1 ∙ takes j (infix_level o) _ _ le
+    ]
 
 pub read_unary : (o : UnaryOperator) (m j : ℕ) (w : List Class) → read (suc m) j (class_of (unary_token o) ∷ w) ≡ bind (read m 18 w) (λ s us. loop m j (Unary o s) us)
 read_unary o m j w =
-    elim (unary_class o)
-      [ inl e ↦ ap (λ c. read (suc m) j (c ∷ w)) e
-      | inr e ↦ ap (λ c. read (suc m) j (c ∷ w)) e.1 ]
+    elim (unary_class o) [
+      | inl e ↦ ap (λ c. read (suc m) j (c ∷ w)) e
+      | inr e ↦ ap (λ c. read (suc m) j (c ∷ w)) e.1
+    ]

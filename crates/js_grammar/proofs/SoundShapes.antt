@@ -8,10 +8,10 @@ use Rattle.tree_nodes.specs.declared.kind.Kind.{Kind}
 use Rattle.tree_nodes.specs.declared.kind.Kind.TheVariants.{ArrayExpression, AssignmentExpression, BinaryExpression, CallExpression, ConditionalExpression, Identifier, Literal, LogicalExpression, MemberExpression, NewExpression, SequenceExpression, ThisExpression, UnaryExpression, UpdateExpression}
 use Rattle.tree_nodes.specs.declared.literals.LiteralCase.{LiteralCase}
 use Rattle.tree_nodes.specs.declared.literals.LiteralCase.TheVariants as case
-use Rattle.js_grammar.specs.Expressions.{in_sequence, literal_operand, operand_by_case, plain_name, shape_at, shape_from, shapes_at, shapes_in, target, three, two, unreserved, updated, value_operand}
+use Rattle.js_grammar.specs.Expressions.{in_sequence, operand_by_case, shape_at, shape_from, shapes_at, shapes_in, target, three, two, unreserved, updated, value_operand}
 use Rattle.js_grammar.specs.Laws.{ShapesAreSound}
 use Rattle.js_grammar.specs.Printed.{AreSound, IsSound}
-use Rattle.js_grammar.specs.Shapes.{Array, Assign, Call, Conditional, Index, Member, Name, New, One, Operand, Prefix, Postfix, Sequence, Shape, Shapes, Unary, also, is_target, none}
+use Rattle.js_grammar.specs.Shapes.{Array, Assign, Call, Conditional, Index, Member, Name, New, One, Shape, Shapes, Unary, also, is_target, none}
 
 pub of_two : {A B C : Type 0} (f : A → B → C) (P : A → Type 0) (Q : B → Type 0) (R : C → Type 0) (o : Option A) (p : Option B) → IfSome o P → IfSome p Q → ((a : A) (b : B) → P a → Q b → R (f a b)) → IfSome (two f o p) R
 of_two f P Q R None p h g go = tt
@@ -98,14 +98,15 @@ module _ (fields : Parts) (shape : ℕ → Option Shape) (shapes : ℕ → Optio
   sound_from NewExpression = of_two New IsSound AreSound IsSound (shape 0) (shapes 1) (h 0) (g 1) (λ s ss p q. (p, q))
   sound_from MemberExpression =
       either (flag_of (part fields 3)) None _ tt
-        (either (flag_of (part fields 2)) _ _
-          (of_two Index IsSound IsSound IsSound (shape 0) (shape 1) (h 0) (h 1) (λ s x p q. (p, q)))
-          (of_two Member IsSound Anything IsSound (shape 0) _ (h 0) (of_any _) (λ s w p q. p)))
+      (either (flag_of (part fields 2)) _ _
+      (of_two Index IsSound IsSound IsSound (shape 0) (shape 1) (h 0) (h 1) (λ s x p q. (p, q)))
+      (of_two Member IsSound Anything IsSound (shape 0) _ (h 0) (of_any _) (λ s w p q. p)))
   sound_from SequenceExpression = sequence_sound (shapes 0) (g 0)
   sound_from _ = tt
 
 mutual
   unfolding shape_at
+
   sound_at : (ps : Parts) (i : ℕ) → IfSome (shape_at ps i) IsSound
   sound_at done i = tt
   sound_at (atom a rest) zero = tt
@@ -129,8 +130,8 @@ mutual
   all_sound (atom a rest) = tt
   all_sound (child k s e fields rest) =
       of_two also IsSound AreSound AreSound _ (shapes_in rest)
-        (sound_from fields (λ j. shape_at fields j) (λ j. shapes_at fields j) (λ j. sound_at fields j) (λ j. lists_sound fields j) k)
-        (all_sound rest) (λ s ss p q. (p, q))
+      (sound_from fields (λ j. shape_at fields j) (λ j. shapes_at fields j) (λ j. sound_at fields j) (λ j. lists_sound fields j) k)
+      (all_sound rest) (λ s ss p q. (p, q))
   all_sound (many items rest) = tt
 
 pub shapes_sound : ShapesAreSound

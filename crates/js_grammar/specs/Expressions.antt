@@ -1,5 +1,5 @@
 -- The shape of an expression in a tree, where it is one that can be printed.
-use Rattle.std.specs.Prelude.{◌≡◌, ℕ, zero, suc, Bool, true, false, List, [], ◌∷◌, Option, Some, None, IsSome, option_map, slice_get, if◌then◌else◌}
+use Rattle.std.specs.Prelude.{ℕ, zero, suc, Bool, true, false, List, [], ◌∷◌, Option, Some, None, IsSome, option_map, slice_get, if◌then◌else◌}
 use Rattle.syntax_lex.specs.Keyword.{is_reserved_keyword}
 use Rattle.syntax_lex.specs.declared.operator.assignment.AssignmentOperator.{AssignmentOperator}
 use Rattle.syntax_lex.specs.declared.operator.assignment.AssignmentOperator.TheVariants as assign

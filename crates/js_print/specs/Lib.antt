@@ -1,4 +1,0 @@
-pub mod Views
-pub mod Kinds
-pub mod Adds
-pub mod PrintError
