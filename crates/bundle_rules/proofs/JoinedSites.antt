@@ -85,8 +85,7 @@ one_module m t b s r =
     let own : seen (alone t) ≡ after = bare_seen t b in
     let nodes : after.nodes ≡ nodes_in (body t) + 1 = walk_nodes (body t) (all body_column) top root_seen in
     let many : length (reverse (seen (alone t)).scopes) ≡ length after.scopes = length-reverse (seen (alone t)).scopes ∙ ap (λ (q : Seen). length q.scopes) own in
-    let bodies_are : (seen (alone t)).classes ≡ after.classes = ap (λ (q : Seen). q.classes) own in
-    (
+    let bodies_are : (seen (alone t)).classes ≡ after.classes = ap (λ (q : Seen). q.classes) own in (
       a.sites ∙ ap (λ (q : Seen). map (moved_site m) q.sites ++ s.sites) (sym own),
       record {
         nodes = omega (arith, a.nodes, nodes);

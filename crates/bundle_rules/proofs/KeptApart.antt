@@ -168,7 +168,12 @@ module _ (ts us : List Tree) (given : List Text) (a : AreParts (modules_of ts) [
       let m = moves_at no_moves ds s.k in
       let there : In (final_place m s.part s.place) whole = subst (In (final_place m s.part s.place)) (sym is_final) (final_there no_moves ds s.k s.part s.place s.at s.among) in
       record {
-        k = s.k; part = s.part; place = s.place; at = s.at; among = s.among; is = s.is;
+        k = s.k;
+        part = s.part;
+        place = s.place;
+        at = s.at;
+        among = s.among;
+        is = s.is;
         named = new_is whole whole_rises p (final_place m s.part s.place) there (ap (λ (q : Named Tagged). q.site) s.is);
         bound = ap (binding same_tagged joint) s.is ∙ binding_at s.k s.part s.place s.at;
       }
@@ -220,7 +225,10 @@ module _ (ts us : List Tree) (given : List Text) (a : AreParts (modules_of ts) [
       let node_is : node b ≡ (moves_at no_moves ds s.k).nodes + node s.place = ap (λ (q : Named Tagged). q.site.node) s.is in
       let own : binding same_name (old s.part) s.place ≡ Some (node s.place) = moved_some _ _ _ (sym s.bound ∙ h.own ∙ ap Some node_is) in
       record {
-        k = s.k; part = s.part; place = s.place; is = s.is;
+        k = s.k;
+        part = s.part;
+        place = s.place;
+        is = s.is;
         local = record { at = s.at; among = s.among; declares = subst (λ (q : Named Tagged). declares q.site ≡ true) s.is h.declares; own = own };
         named = s.named ∙ ap (λ (o : Option ℕ). or_own (name_given s.part.needing s.part.xs o) s.place.name) own;
       }

@@ -111,11 +111,17 @@ module _ (m : Moves) where
     met_moved Hoisting b e inner inner' s s' t = record { nodes = omega (arith, t.nodes); bodies = t.bodies; scopes = omega (arith, t.scopes); root = omega arith; sites = t.sites }
     met_moved ClassMembers b e inner inner' s s' t = record { nodes = omega (arith, t.nodes); bodies = omega (arith, t.bodies); scopes = t.scopes; root = t.root; sites = t.sites }
     met_moved NameHere b e inner inner' s s' t = record {
-      nodes = omega (arith, t.nodes); bodies = t.bodies; scopes = t.scopes; root = t.root;
+      nodes = omega (arith, t.nodes);
+      bodies = t.bodies;
+      scopes = t.scopes;
+      root = t.root;
       sites = ap₂ (λ (n : ℕ) (ss : List Site). record { node = n; start = b; private = false; setting = moved_setting m e } ∷ ss) t.nodes t.sites;
     }
     met_moved PrivateNameHere b e inner inner' s s' t = record {
-      nodes = omega (arith, t.nodes); bodies = t.bodies; scopes = t.scopes; root = t.root;
+      nodes = omega (arith, t.nodes);
+      bodies = t.bodies;
+      scopes = t.scopes;
+      root = t.root;
       sites = ap₂ (λ (n : ℕ) (ss : List Site). record { node = n; start = b; private = true; setting = moved_setting m e } ∷ ss) t.nodes t.sites;
     }
 
