@@ -1,19 +1,19 @@
 -- The scopes and the nodes that the walk in tables lists are those of the tree.
-use Rattle.std.proofs.Common.{◌≡◌, ℕ, zero, suc, ◌+◌, arith, Bool, true, false, not, List, [], ◌∷◌, ◌++◌, map, reverse, if◌then◌else◌, Option, Some, None, refl, sym, ap, subst, ◌∙◌}
+use Rattle.std.proofs.Common.{◌≡◌, ℕ, zero, suc, ◌+◌, arith, Bool, true, false, not, List, [], ◌∷◌, ◌++◌, map, reverse, if◌then◌else◌, length, Option, Some, None, refl, sym, ap, subst, ◌∙◌}
 use Rattle.std.specs.List.{range_with_len}
 use Rattle.std.specs.Prelude.{filter}
 use Rattle.std.proofs.lemmas.Grind.{reverse_onto}
 use Rattle.std.proofs.lemmas.List.{append-nil, append_assoc, map-append}
 use Rattle.std.proofs.lemmas.List.Elements.{filter-append}
 use Rattle.place_list.proofs.HiddenFields.{AlongAgrees, first_agrees, hidden_agrees, others_agree}
-use Rattle.place_list.proofs.NumbersStand.{Beside, Stands, beside_on, beside_push, list_is, stands_on}
+use Rattle.place_list.proofs.NumbersStand.{Beside, Stands, beside_on, beside_push, lineages_push, list_is, stands_on}
 use Rattle.place_list.proofs.WalksAgree.{AllGrow, AroundFits, Matches, NodeReached, Walked, after_node, all_grow_on, around_on, entered, entered_there, here_at, met_there, node_step, noted, root_agrees, root_fits, root_matches, walk_follows}
-use Rattle.place_list.specs.Nodes.{NodeAt, is_opener, is_private, is_site, site_at, nested, nodes, nodes_from, scope_node}
+use Rattle.place_list.specs.Nodes.{NodeAt, is_class_body, is_opener, opens_class, is_private, is_site, site_at, nested, nodes, nodes_from, scope_node}
 use Rattle.place_list.specs.Open.{all_open}
 use Rattle.place_list.specs.ScopeKinds.{scope_kind, value_scope}
 use Rattle.place_list.specs.TableWalk as spec
 use Rattle.place_list.specs.TableWalk.{Around, State, lists_of, nothing_met, tables_of}
-use Rattle.place_list.specs.Tables.{Lists, NodeView, list_at, nested_node_of, scope_node_of}
+use Rattle.place_list.specs.Tables.{Lists, NodeView, lineages, list_at, nested_node_of, scope_node_of}
 use Rattle.place_list.specs.declared.setting.Setting.{Setting}
 use Rattle.place_list.specs.declared.tables.ScopeEntry.{ScopeEntry}
 use Rattle.tree_nodes.specs.Along.{Along, all, each, first_column, other_columns}
@@ -22,7 +22,7 @@ use Rattle.tree_nodes.specs.Tree.{Parts, Text, Tree, atom, child, done, many, te
 use Rattle.tree_nodes.specs.declared.table.Mark.{Mark}
 use Rattle.tree_nodes.specs.declared.table.Mark.TheVariants.{Head}
 use Rattle.tree_nodes.specs.declared.table.Opens.{Opens}
-use Rattle.tree_nodes.specs.declared.table.Opens.TheVariants.{BareBlock, Block, Hoisting, NameHere, Nothing, PrivateNameHere, WithBody}
+use Rattle.tree_nodes.specs.declared.table.Opens.TheVariants.{BareBlock, Block, ClassMembers, Hoisting, NameHere, Nothing, PrivateNameHere, WithBody}
 use Rattle.tree_places.specs.Lineage.{opens_scope}
 use Rattle.tree_places.specs.Places as places
 use Rattle.tree_places.specs.Places.{Seen, hide, is_place, scopes, seen}
@@ -66,6 +66,7 @@ pub record Listed (b : Bool) (l : State) (s : Seen) (ns : List NodeAt) : Type 0 
   pub scopes : reverse s.scopes ≡ map (λ n. n.inside.scope) (filter is_opener ns)
   pub sites : reverse s.sites ≡ map site_at (filter is_site ns)
   pub numbers : map (λ n. n.node) ns ≡ range_with_len 0 s.nodes
+  pub class_lines : lineages l.class_bodies ≡ map (λ n. n.inside.classes) (filter is_class_body ns)
 
 -- the same nodes and scopes are listed
 record ListsSame (l m : State) : Type 0 where
@@ -79,14 +80,15 @@ nodes_on a b es ns g h = beside_on (NodeFits a) (NodeFits b) es ns (λ e n f. re
 entries_on : (a b : Lists) (es : List ScopeEntry) (ns : List NodeAt) → AllGrow a b → Beside (ScopeFits a) es ns → Beside (ScopeFits b) es ns
 entries_on a b es ns g h = beside_on (ScopeFits a) (ScopeFits b) es ns (λ e n f. record { node = f.node; kind = f.kind; strict = f.strict; var_scope = stands_on a.scopes b.scopes e.var_scope n.inside.var_scope g.scopes f.var_scope }) h
 
-listed_on : (b : Bool) (l m : State) (s : Seen) (ns : List NodeAt) → ListsSame l m → AllGrow (lists_of l) (lists_of m) → Listed b l s ns → Listed b m s ns
-listed_on b l m s ns k g h = record {
+listed_on : (b : Bool) (l m : State) (s : Seen) (ns : List NodeAt) → ListsSame l m → m.class_bodies ≡ l.class_bodies → AllGrow (lists_of l) (lists_of m) → Listed b l s ns → Listed b m s ns
+listed_on b l m s ns k bodies g h = record {
   lists = k.lists ∙ h.lists;
   nodes = subst (λ (es : List NodeView). Beside (NodeFits (lists_of m)) es (if b then ns else [])) (sym k.nodes) (nodes_on (lists_of l) (lists_of m) l.node_entries (if b then ns else []) g h.nodes);
   entries = subst (λ (es : List ScopeEntry). Beside (ScopeFits (lists_of m)) es (filter is_opener ns)) (sym k.entries) (entries_on (lists_of l) (lists_of m) l.scope_entries (filter is_opener ns) g h.entries);
   scopes = h.scopes;
   sites = h.sites;
   numbers = h.numbers;
+  class_lines = ap lineages bodies ∙ h.class_lines;
 }
 
 -- ---- a field, and a node
@@ -101,10 +103,28 @@ unfolding all_open
 head_lists_same Head o outer l = entry_lists_same o outer l
 head_lists_same m o outer l = record { lists = refl; nodes = refl; entries = refl }
 
+entry_bodies : (o outer : Option ℕ) (l : State) → (spec.put_entry o outer l).class_bodies ≡ l.class_bodies
+unfolding all_open
+entry_bodies None outer l = refl
+entry_bodies (Some k) outer l = refl
+
+head_bodies : (m : Mark) (o outer : Option ℕ) (l : State) → (spec.put_head m o outer l).class_bodies ≡ l.class_bodies
+unfolding all_open
+head_bodies Head o outer l = entry_bodies o outer l
+head_bodies m o outer l = refl
+
 met_lists_same : (o : Opens) (b : ℕ) (e : Setting) (v : Option ℕ) (x : Text) (l : State) → ListsSame l (spec.met o b e v x l)
 unfolding all_open
 met_lists_same Nothing b e v x l = record { lists = refl; nodes = refl; entries = refl }
 met_lists_same o b e v x l = record { lists = refl; nodes = refl; entries = refl }
+
+-- one class body more in the tables
+met_bodies : (o : Opens) (b : ℕ) (e : Setting) (v : Option ℕ) (x : Text) (l : State) (scopes n : ℕ) (y : places.Setting) → Stands (lineages l.class_bodies) e.class_body y.classes → n ≡ length l.class_bodies
+    → lineages (spec.met o b e v x l).class_bodies ≡ lineages l.class_bodies ++ (if opens_class o then (places.opened o scopes n y).classes ∷ [] else [])
+unfolding spec.met places.opened opens_class
+met_bodies ClassMembers b e v x l scopes n y s h = lineages_push l.class_bodies e.class_body y.classes s n h
+met_bodies Nothing b e v x l scopes n y s h = sym (append-nil (lineages l.class_bodies))
+met_bodies o b e v x l scopes n y s h = sym (append-nil (lineages l.class_bodies))
 
 -- one scope more in the definitions
 met_scopes : (o : Opens) (b : ℕ) (e : places.Setting) (inner : Scope) (s : Seen) → reverse (places.met o b e inner s).scopes ≡ reverse s.scopes ++ (if opens_scope o e.bare then inner ∷ [] else [])
@@ -183,7 +203,7 @@ node_listed b t c a x l s ns r af h =
     let before : State = spec.after_field c a l in
     let after : State = after_node t c a l in
     let own : NodeAt = node_at t c a x s in
-    let i : Listed b before s ns = listed_on b l before s ns (head_lists_same c.mark a.inside.scope (spec.side c.inside a).head l) r.field.grows h in
+    let i : Listed b before s ns = listed_on b l before s ns (head_lists_same c.mark a.inside.scope (spec.side c.inside a).head l) (head_bodies c.mark a.inside.scope (spec.side c.inside a).head l) r.field.grows h in
     let k : ListsSame (noted t c a l) after = met_lists_same (row t.kind).opens t.start (here_at c a l) (entered t.kind t.fields c a l).inside.var_scope (text_of t.fields) (noted t c a l) in
     let bare : opens_scope (row t.kind).opens (here_at c a l).bare ≡ opens_scope (row t.kind).opens (places.at_field c x).bare = ap (opens_scope (row t.kind).opens) r.field.fits.bare in
     record {
@@ -211,6 +231,10 @@ node_listed b t c a x l s ns r af h =
           ∙ ap (λ (ks : List ℕ). ks ++ s.nodes ∷ []) i.numbers
           ∙ sym (numbers_push s.nodes)
           ∙ ap (range_with_len 0) (sym (met_nodes (row t.kind).opens t.start (places.at_field c x) (entered_there t.kind t.fields c x s).inside.scope s));
+      class_lines =
+          met_bodies (row t.kind).opens t.start (here_at c a l) (entered t.kind t.fields c a l).inside.var_scope (text_of t.fields) (noted t c a l) (length s.scopes) s.classes
+          (record (places.at_field c x) { strict = places.strict_in (row t.kind).strict (places.at_field c x).strict (hide t.kind t.fields) }) r.field.fits.classes (sym r.field.matches.class_bodies)
+          ∙ passing_push (λ (n : NodeAt). n.inside.classes) is_class_body ns own (lineages before.class_bodies) i.class_lines;
     }
 
 -- ---- the walk
@@ -254,7 +278,7 @@ pub tables_list : (b : Bool) (t : Parts) → Listed b (tables_of b t) (seen t) (
 unfolding all_open
 tables_list b t =
     walk_lists b t (all unlisted) spec.before_all places.before_all (nothing_met b) places.nothing_yet [] root_agrees (root_fits b) (root_matches b)
-    (record { lists = refl; nodes = none b; entries = tt; scopes = refl; sites = refl; numbers = refl })
+    (record { lists = refl; nodes = none b; entries = tt; scopes = refl; sites = refl; numbers = refl; class_lines = refl })
   where
     none : (b : Bool) → Beside (NodeFits (lists_of (nothing_met b))) [] (if b then [] else [])
     none true = tt

@@ -6,7 +6,7 @@ use Rattle.place_list.proofs.WalksAgree.{Fits, Matches, SiteFits, after_node, en
 use Rattle.place_list.proofs.NumbersStand.{Stands, beside_all, beside_is, beside_same, list_is}
 use Rattle.place_list.proofs.OuterComesFirst.{comes_before, head_below, line_below, parents}
 use Rattle.place_list.specs.Bounds.{IsBelow, IsBounded, IsKnown}
-use Rattle.place_list.specs.Nodes.{NodesAreNumbered, OpenersOpenScopes, SitesAreNodes, is_opener, nested, nested_nodes, nodes, openers, scope_node, scope_nodes}
+use Rattle.place_list.specs.Nodes.{NodesAreNumbered, OpenersOpenScopes, SitesAreNodes, class_lines, is_opener, nested, nested_nodes, nodes, openers, scope_node, scope_nodes}
 use Rattle.place_list.specs.Open.{all_open}
 use Rattle.place_list.specs.TableWalk as spec
 use Rattle.place_list.specs.TableWalk.{Around, State, lists_of, nothing_met, tables_of}
@@ -115,6 +115,10 @@ module _ (b : Bool) (t : Parts) where
   pub scope_nodes_found : map (scope_node_of told) found.scope_entries ≡ scope_nodes t
   unfolding openers scope_nodes
   scope_nodes_found = beside_same (ScopeFits told) (scope_node_of told) scope_node found.scope_entries (openers t) (scope_node_is told) (tables_list b t).entries
+
+  pub class_lines_found : lineages found.class_bodies ≡ class_lines t
+  unfolding class_lines
+  class_lines_found = (tables_list b t).class_lines
 
   pub bounded : IsBounded found
   unfolding lists_of

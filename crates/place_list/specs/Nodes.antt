@@ -8,7 +8,7 @@ use Rattle.tree_nodes.specs.Along.{Along, all, each, first_column, other_columns
 use Rattle.tree_nodes.specs.Table.{row, unlisted}
 use Rattle.tree_nodes.specs.Tree.{Parts, Tree, atom, child, done, many}
 use Rattle.tree_nodes.specs.declared.table.Opens.{Opens}
-use Rattle.tree_nodes.specs.declared.table.Opens.TheVariants.{PrivateNameHere}
+use Rattle.tree_nodes.specs.declared.table.Opens.TheVariants.{ClassMembers, PrivateNameHere}
 use Rattle.tree_places.specs.Lineage.{opens_scope}
 use Rattle.tree_places.specs.Places.{Around, Seen, Setting, Site, at_field, before_all, enter, hide, is_place, met, nothing_yet, scopes, seen, sites, walk}
 use Rattle.tree_places.specs.Scopes.{Scope}
@@ -79,6 +79,19 @@ openers t = filter is_opener (nodes t)
 -- by the number of the scope
 unfoldable pub scope_nodes : Parts → List ScopeNode
 scope_nodes t = map scope_node (openers t)
+
+-- ---- those that open a class body
+
+unfoldable pub opens_class : Opens → Bool
+opens_class ClassMembers = true
+opens_class _ = false
+
+unfoldable pub is_class_body : NodeAt → Bool
+is_class_body n = opens_class (row n.tree.kind).opens
+
+-- by the number of the class body: its own, and those of the class bodies around it, from the inside outwards
+unfoldable pub class_lines : Parts → List (List ℕ)
+class_lines t = map (λ n. n.inside.classes) (filter is_class_body (nodes t))
 
 -- ---- those that are places
 

@@ -4,8 +4,9 @@ ghost use Rattle.std.specs.Prelude.{◌≡◌, ◌<◌, IfOk, false, length, tru
 ghost use Rattle.std.specs.List.{AllByRecursion};
 ghost use Rattle.place_list.specs.Bounds.{IsBounded};
 ghost use Rattle.place_list.specs.Names.{AreNumbered};
-ghost use Rattle.place_list.specs.Nodes.{nested_nodes, scope_nodes};
-ghost use Rattle.place_list.specs.TableViews.{list_view, nested_nodes_in, places_in, scope_nodes_in, scopes_in, withs_in};
+ghost use Rattle.place_list.specs.Nodes.{class_lines, nested_nodes, scope_nodes};
+ghost use Rattle.place_list.specs.TableViews.{class_parents, list_view, nested_nodes_in, places_in, scope_nodes_in, scopes_in, withs_in};
+ghost use Rattle.place_list.specs.Tables.{lineages};
 ghost use Rattle.place_list.specs.TableWalk.{nothing_met, tables_of};
 ghost use Rattle.tree_nodes.specs.Tree.{alone};
 ghost use Rattle.tree_places.specs.Places as spec;
@@ -93,6 +94,7 @@ pub fn list_places_and_nodes<'t>(alloc: Global, root: &'t Node) -> Result<PlaceL
     ensures withs { IfOk result (λ l. withs_in l ≡ spec.withs (alone root.now)) }
     ensures nodes { IfOk result (λ l. l.nodes ≡ (spec.seen (alone root.now)).nodes) }
     ensures class_bodies { IfOk result (λ l. length l.class_bodies.items ≡ (spec.seen (alone root.now)).classes) }
+    ensures class_lines { IfOk result (λ l. lineages (class_parents l) ≡ class_lines (alone root.now)) }
     ensures bounded { IfOk result (λ l. IsBounded (list_view l)) }
     ensures numbered { IfOk result (λ l. AreNumbered l.places.items) }
     ensures names { IfOk result (λ l. AllByRecursion (λ e. e.name_number < l.names) l.places.items) }

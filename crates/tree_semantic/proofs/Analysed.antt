@@ -3,8 +3,10 @@ use Rattle.std.specs.Prelude.{◌≡◌, ◌≤◌, ◌-◌, ◌^◌, ℕ, Bool,
 use Rattle.std.specs.Result.{IsErrAnd}
 use Rattle.std.proofs.Common.{ap, subst, sym, ◌∙◌, Vec, Global}
 use Rattle.std.proofs.lemmas.Result.{err_from_is_err_and}
-use Rattle.place_list.specs.Nodes.{nested_nodes, scope_nodes}
-use Rattle.place_list.specs.TableViews.{nested_nodes_in, places_in, scope_nodes_in, scopes_in, withs_in}
+use Rattle.place_list.specs.Nodes.{class_lines, nested_nodes, scope_nodes}
+use Rattle.place_list.specs.Bounds.{ComesBefore}
+use Rattle.place_list.specs.TableViews.{class_parents, nested_nodes_in, places_in, scope_nodes_in, scopes_in, withs_in}
+use Rattle.place_list.specs.Tables.{lineages}
 use Rattle.place_list.specs.declared.tables.NodeEntry.{NodeEntry}
 use Rattle.place_list.specs.declared.tables.PlaceList.{PlaceList}
 use Rattle.scope_rules.specs.Bindings.{same_name}
@@ -12,7 +14,8 @@ use Rattle.scope_rules.specs.Faults.{has_fault}
 use Rattle.scope_tables.specs.declared.tables.ScopeTables.{ScopeTables}
 use Rattle.tree_nodes.specs.Tree.{Parts}
 use Rattle.tree_places.specs.Places.{Place, places, scopes, seen, withs}
-use Rattle.tree_semantic.specs.ClassBodies.{AreClassesOf}
+use Rattle.tree_semantic.proofs.ClassesTold.{lines_tell_parents}
+use Rattle.tree_semantic.specs.ClassBodies.{AreClassesOf, next_outwards, parents_in}
 use Rattle.tree_semantic.specs.Nodes.{nodes_in, told}
 use Rattle.tree_semantic.specs.Semantics.{IsSemanticOf}
 use Rattle.tree_semantic.specs.declared.builder.SemanticError.{SemanticError}
@@ -28,10 +31,12 @@ pub record IsListOf (t : Parts) (whole l : PlaceList) : Type 0 where
   pub withs : withs_in l ≡ withs t
   pub nested_nodes : nested_nodes_in whole ≡ nested_nodes t
   pub class_bodies : length l.class_bodies.items ≡ (seen t).classes
+  pub lines : lineages (class_parents l) ≡ class_lines t
+  pub before : ComesBefore (class_parents l)
 
 pub list_of : (t : Parts) (whole : PlaceList) (nodes : Vec NodeEntry Global) → places_in whole ≡ places t → scopes_in whole ≡ scopes t → scope_nodes_in whole ≡ scope_nodes t → withs_in whole ≡ withs t
-    → nested_nodes_in whole ≡ nested_nodes t → length whole.class_bodies.items ≡ (seen t).classes → IsListOf t whole (record whole { node_entries = nodes })
-list_of t whole nodes ps ss ns ws ms cs = record { places = ps; scopes = ss; scope_nodes = ns; withs = ws; nested_nodes = ms; class_bodies = cs }
+    → nested_nodes_in whole ≡ nested_nodes t → length whole.class_bodies.items ≡ (seen t).classes → lineages (class_parents whole) ≡ class_lines t → ComesBefore (class_parents whole) → IsListOf t whole (record whole { node_entries = nodes })
+list_of t whole nodes ps ss ns ws ms cs ls before = record { places = ps; scopes = ss; scope_nodes = ns; withs = ws; nested_nodes = ms; class_bodies = cs; lines = ls; before = before }
 
 module _ (t : Parts) (whole l : PlaceList) (listed : IsListOf t whole l) (m : ScopeTables) (same : m.list ≡ l) where
   places_same : places_in m.list ≡ places t
@@ -41,9 +46,9 @@ module _ (t : Parts) (whole l : PlaceList) (listed : IsListOf t whole l) (m : Sc
   pub fault_told : (b c : Bool) → b ≡ has_fault same_name (places_in m.list) → b ≡ c → has_fault same_name (places t) ≡ c
   fault_told b c is test = sym (is ∙ ap (has_fault same_name) places_same) ∙ test
 
-  pub analysed : (s : Semantic) → IsScoping s.scoping → tables_of s.scoping ≡ m → AreClassesOf (places_in m.list) (length m.list.class_bodies.items) s.classes
+  pub analysed : (s : Semantic) → IsScoping s.scoping → tables_of s.scoping ≡ m → AreClassesOf (places_in m.list) (length m.list.class_bodies.items) s.classes → parents_in s.classes ≡ class_parents m.list
       → nodes_in s.nodes ≡ map told (nested_nodes_in whole) → length (nodes_in s.nodes) ≤ 2 ^ 32 - 1 → IsFalse (has_fault same_name (places t)) → IsSemanticOf t s
-  analysed s scoping kept classes nodes few faultless =
+  analysed s scoping kept classes parents nodes few faultless =
       let list : (tables_of s.scoping).list ≡ l = ap (λ (n : ScopeTables). n.list) kept ∙ same in
       record {
         scoping = scoping;
@@ -54,6 +59,7 @@ module _ (t : Parts) (whole l : PlaceList) (listed : IsListOf t whole l) (m : Sc
         withs = ap withs_in list ∙ listed.withs;
         class_bodies = ap (λ (q : PlaceList). length q.class_bodies.items) list ∙ listed.class_bodies;
         nodes = nodes ∙ ap (map told) listed.nested_nodes;
+        class_parents = parents ∙ ap class_parents same ∙ sym (lines_tell_parents (class_parents l) listed.before) ∙ ap (map next_outwards) listed.lines;
         classes = subst (λ (n : ℕ). AreClassesOf (places t) n s.classes) (ap (λ (q : PlaceList). length q.class_bodies.items) same ∙ listed.class_bodies)
             (subst (λ (ps : List Place). AreClassesOf ps (length m.list.class_bodies.items) s.classes) places_same classes);
         faultless = faultless;

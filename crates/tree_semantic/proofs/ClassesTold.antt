@@ -2,15 +2,18 @@
 use Rattle.std.specs.Prelude.{◌≡◌, ◌<◌, ◌+◌, ◌++◌, ◌∷◌, [], ℕ, zero, suc, Bool, true, false, List, length, map, take, get_or, slice_get, Option, Some, None, IfSome, find, is_some, nat_eq, option_map, if◌then◌else◌}
 use Rattle.std.specs.List.{AllByRecursion, range_with_len}
 use Rattle.std.proofs.Common.{refl, sym, ap, ◌∙◌, subst, arith, add-one}
-use Rattle.std.proofs.lemmas.List.{get_or-map, length-map, length_push, map_push, take_all, take_more}
+use Rattle.std.proofs.lemmas.List.{ext_get_or, get_or-map, length-map, length_push, map_push, take_all, take_more}
 use Rattle.std.proofs.lemmas.List.FromFn.{map-range_with_len_more}
+use Rattle.std.proofs.lemmas.Option.{slice_get_within}
 use Rattle.std.proofs.lemmas.Simd.{map-map}
 use Rattle.list_laws.proofs.Members.{In}
 use Rattle.list_laws.proofs.Tests.{some_one}
 use Rattle.number_tables.specs.PlacedNumbers as numbers
 use Rattle.number_tables.specs.PlacedNumbers.{number_at}
 use Rattle.place_list.proofs.OutwardWalks.{line_outwards, outer_below}
-use Rattle.place_list.proofs.PlacesStand.{stands_for_place}
+use Rattle.place_list.proofs.NumbersStand.{lineages_length}
+use Rattle.place_list.proofs.OuterComesFirst.{line_at}
+use Rattle.place_list.proofs.PlacesStand.{mapped_at, stands_for_place}
 use Rattle.place_list.specs.Bounds.{ComesBefore, IsBelow, IsBounded, IsKnown}
 use Rattle.place_list.specs.TableViews.{class_parents, classes_at, entry_view, list_view, lists_in, place_in, places_in}
 use Rattle.place_list.specs.Tables.{lineages, list_at, place_of, setting_of, site_of}
@@ -26,7 +29,7 @@ use Rattle.syntax_sem.specs.ClassId as class_id
 use Rattle.tree_nodes.specs.Tree.{Text}
 use Rattle.tree_places.specs.Laws as laws
 use Rattle.tree_places.specs.Places.{Place}
-use Rattle.tree_semantic.specs.ClassBodies.{AreClassesOf, AreRowsOf, IsRowOf, LeadOutwards, class_of_place, node_class, nodes_of, parents_in}
+use Rattle.tree_semantic.specs.ClassBodies.{AreClassesOf, AreRowsOf, IsRowOf, LeadOutwards, class_of_place, next_outwards, node_class, nodes_of, parents_in}
 use Rattle.tree_semantic.specs.declared.classes.ClassRow.{ClassRow}
 use Rattle.tree_semantic.specs.declared.classes.Classes.{Classes}
 use Rattle.tree_symbols.proofs.Filtered.{first_found}
@@ -83,6 +86,18 @@ module _ (os : List (Option ℕ)) (before : ComesBefore os) where
   pub leads_outwards : (o : Option ℕ) → IsBelow (length os) o → LeadOutwards os (list_at (lineages os) o)
   leads_outwards o b = line_leads (length os) o b b
 
+  -- what stands next after each number in its line is its parent
+  next_is : (k : ℕ) (p : Option ℕ) → slice_get os k ≡ Some p → get_or (map next_outwards (lineages os)) k None ≡ p
+  unfolding next_outwards
+  next_is k p e = read_or_none (map next_outwards (lineages os)) k p
+      (mapped_at next_outwards (lineages os) k (k ∷ list_at (lineages os) p) (line_at os before k p e) ∙ ap (λ (o : Option ℕ). Some o) (number_is p (below_less k (length os) p (slice_get_within os k p e) (outer_below os before k p e))))
+
+  pub lines_tell_parents : map next_outwards (lineages os) ≡ os
+  lines_tell_parents =
+      let many : length (map next_outwards (lineages os)) ≡ length os = length-map (lineages os) next_outwards ∙ lineages_length os in
+      ext_get_or None (map next_outwards (lineages os)) os many
+      (λ i h. let t = there i (subst (λ (n : ℕ). i < n) many h) in next_is i t.0 t.1 ∙ sym (read_or_none os i t.0 t.1))
+
 places_lead : (l : PlaceList) → IsBounded (list_view l) → (es : List PlaceEntry) → AllByRecursion (λ e. IsBelow (length (class_parents l)) e.setting.class_body) es
     → AllByRecursion (λ p. LeadOutwards (class_parents l) p.site.setting.classes) (map (place_of (lists_in l)) (map entry_view es))
 unfolding place_of site_of setting_of
@@ -126,11 +141,15 @@ rows_more l count rs r more h a one pushed =
           ∙ sym (map-range_with_len_more (evals.is_open (places_in l)) 0 count count (omega arith));
     })
 
+pub parents_are : (l : PlaceList) (rs : List ClassRow) → AreRowsOf l (length l.class_bodies.items) rs → map (λ (r : ClassRow). option_map class_id.number_of r.parent) rs ≡ class_parents l
+parents_are l rs a =
+    let many : length (class_parents l) ≡ length l.class_bodies.items = length-map l.class_bodies.items (λ (e : ClassEntry). e.parent) in
+    a.parents ∙ take_all (length l.class_bodies.items) (class_parents l) (omega (arith, many))
+
 pub classes_are : (l : PlaceList) → IsBounded (list_view l) → (c : Classes) → AreRowsOf l (length l.class_bodies.items) c.rows.items → ((n : ℕ) → get_or c.node_classes.items n None ≡ node_class (places_in l) n)
     → ((p : Place) → is_some (class_of_place (places_in l) p) ≡ is_some (names.private_binding same_name (places_in l) p)) → AreClassesOf (places_in l) (length l.class_bodies.items) c
 classes_are l bounded c a by bound =
-    let many : length (class_parents l) ≡ length l.class_bodies.items = length-map l.class_bodies.items (λ (e : ClassEntry). e.parent) in
-    let parents : parents_in c ≡ class_parents l = a.parents ∙ take_all (length l.class_bodies.items) (class_parents l) (omega (arith, many)) in
+    let parents : parents_in c ≡ class_parents l = parents_are l c.rows.items a in
     record {
       class_count = a.many;
       outwards = subst (λ (os : List (Option ℕ)). AllByRecursion (λ (p : Place). LeadOutwards os p.site.setting.classes) (places_in l)) (sym parents) (all_lead l bounded);

@@ -19,6 +19,7 @@ module _ (s : Semantic) (x : Scoping) (ok : IsScoping x) (same : x ≡ under_nam
     withs = ap (λ (y : Scoping). withs_in (tables_of y).list) same ∙ a.withs;
     class_bodies = ap (λ (y : Scoping). length (tables_of y).list.class_bodies.items) same ∙ a.class_bodies;
     nodes = a.nodes;
+    class_parents = a.class_parents;
     classes = a.classes;
     faultless = a.faultless;
   }

@@ -32,6 +32,11 @@ abbrev pub LeadOutwards : List (Option ℕ) → List ℕ → Type 0
 LeadOutwards parents [] = ⊤
 LeadOutwards parents (c ∷ outer) = (get_or parents c None ≡ own_number outer) × LeadOutwards parents outer
 
+-- of the class bodies from one outwards: the next after it, which is the nearest that encloses it
+unfoldable pub next_outwards : List ℕ → Option ℕ
+next_outwards [] = None
+next_outwards (c ∷ outer) = own_number outer
+
 -- the class that declares the private name at a place, if it is one, and at the place that is the node n, if one is
 unfoldable pub class_of_place : List Place → Place → Option ℕ
 class_of_place ps p = if p.site.private then names.declaring_class ps p.name p.site.setting.classes else None

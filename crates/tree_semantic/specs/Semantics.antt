@@ -1,12 +1,12 @@
 -- The analysis of a tree, as data.
 use Rattle.std.specs.Prelude.{◌≡◌, ◌≤◌, ◌-◌, ◌^◌, IsFalse, length, map}
-use Rattle.place_list.specs.Nodes.{nested_nodes, scope_nodes}
+use Rattle.place_list.specs.Nodes.{class_lines, nested_nodes, scope_nodes}
 use Rattle.place_list.specs.TableViews.{withs_in}
 use Rattle.scope_rules.specs.Bindings.{same_name}
 use Rattle.scope_rules.specs.Faults.{has_fault}
 use Rattle.tree_nodes.specs.Tree.{Parts}
 use Rattle.tree_places.specs.Places.{places, scopes, seen, withs}
-use Rattle.tree_semantic.specs.ClassBodies.{AreClassesOf}
+use Rattle.tree_semantic.specs.ClassBodies.{AreClassesOf, next_outwards, parents_in}
 use Rattle.tree_semantic.specs.Nodes.{nodes_in, told}
 use Rattle.tree_semantic.specs.declared.classes.Classes.{Classes}
 use Rattle.tree_semantic.specs.declared.nodes.AstNodes.{AstNodes}
@@ -33,6 +33,7 @@ pub record IsSemanticOf (t : Parts) (s : Semantic) : Type 0 where
   pub withs : withs_in (tables_of s.scoping).list ≡ withs t
   pub class_bodies : length (tables_of s.scoping).list.class_bodies.items ≡ (seen t).classes
   pub nodes : nodes_in s.nodes ≡ map told (nested_nodes t)
+  pub class_parents : parents_in s.classes ≡ map next_outwards (class_lines t)
   pub classes : AreClassesOf (places t) (seen t).classes s.classes
   pub faultless : IsFalse (has_fault same_name (places t))
 

@@ -6,7 +6,7 @@ ghost use Rattle.number_tables.specs.PlacedNumbers.{RiseFrom};
 ghost use Rattle.oxc_str.specs.Ident.{ident_text};
 ghost use Rattle.std.specs.List.{AllByRecursion};
 ghost use Rattle.place_list.specs.Bounds.{IsBounded};
-ghost use Rattle.place_list.specs.TableViews.{list_view, places_in};
+ghost use Rattle.place_list.specs.TableViews.{class_parents, list_view, places_in};
 ghost use Rattle.scope_rules.specs.Bindings.{same_name};
 ghost use Rattle.scope_rules.specs.Faults.{has_fault};
 ghost use Rattle.syntax_sem.specs.ClassId as class_id;
@@ -43,7 +43,8 @@ impl<'t> Classes<'t> {
     pub(crate) fn build(alloc: Global, list: &PlaceList<'t>) -> Result<Self, AllocError>
         requires bounded { IsBounded (list_view list.now) }
         requires rising { laws.RiseFrom 0 (nodes_of list.now.places.items) }
-        ensures { IfOk result (λ c. AreClassesOf (places_in list.now) (length list.now.class_bodies.items) c) }
+        ensures classes { IfOk result (λ c. AreClassesOf (places_in list.now) (length list.now.class_bodies.items) c) }
+        ensures parents { IfOk result (λ c. parents_in c ≡ class_parents list.now) }
     {
         if list.class_bodies.len() > 4_294_967_295 {
             return Err(AllocError);

@@ -6,7 +6,7 @@ use Rattle.place_list.specs.Bounds.{IsBounded}
 use Rattle.place_list.specs.TableWalk.{State, lists_of}
 use Rattle.place_list.specs.Tables.{lineages, list_at, nested_node_of, place_of, scope_node_of}
 use Rattle.tree_nodes.specs.Tree.{alone}
-use Rattle.place_list.proofs.TablesStand.{bounded, class_bodies_found, nested_nodes_found, nodes_found, places_found, scope_nodes_found, scopes_found, withs_found}
+use Rattle.place_list.proofs.TablesStand.{bounded, class_bodies_found, class_lines_found, nested_nodes_found, nodes_found, places_found, scope_nodes_found, scopes_found, withs_found}
 use Rattle.place_list.proofs.list.list_places_and_nodes.Goals as goal
 
 pub returns-clause-places : goal.returns-clause-places
@@ -39,6 +39,10 @@ returns-clause-nodes c =
 pub returns-clause-class_bodies : goal.returns-clause-class_bodies
 returns-clause-class_bodies c =
     IfOk-weaker c.find_tables.result _ _ (λ l h. sym (length-map l.class_bodies.items (λ e. e.parent)) ∙ ap (λ (s : State). length s.class_bodies) h ∙ class_bodies_found true (alone c.args.root.now)) c.find_tables.ensures.tables
+
+pub returns-clause-class_lines : goal.returns-clause-class_lines
+returns-clause-class_lines c =
+    IfOk-weaker c.find_tables.result _ _ (λ l h. ap (λ (s : State). lineages s.class_bodies) h ∙ class_lines_found true (alone c.args.root.now)) c.find_tables.ensures.tables
 
 pub returns-clause-bounded : goal.returns-clause-bounded
 returns-clause-bounded c =

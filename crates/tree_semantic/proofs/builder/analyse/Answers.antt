@@ -13,12 +13,12 @@ from_list-requires-clause-rising c = nodes_rise c.in_ok-list.list _ c.in_ok-list
 pub returns-then-has_fault-clause-faulty : goal.returns-then-has_fault-clause-faulty
 returns-then-has_fault-clause-faulty c = λ e.
     let whole = c.in_ok-list.list in
-    let listed = list_of (alone c.args.root.now) whole c.new.result c.in_ok-list.ensures.places c.in_ok-list.ensures.scopes c.in_ok-list.ensures.scope_nodes c.in_ok-list.ensures.withs c.in_ok-list.ensures.nested_nodes c.in_ok-list.ensures.class_bodies in
+    let listed = list_of (alone c.args.root.now) whole c.new.result c.in_ok-list.ensures.places c.in_ok-list.ensures.scopes c.in_ok-list.ensures.scope_nodes c.in_ok-list.ensures.withs c.in_ok-list.ensures.nested_nodes c.in_ok-list.ensures.class_bodies c.in_ok-list.ensures.class_lines c.in_ok-list.ensures.bounded.class_bodies in
     fault_told (alone c.args.root.now) whole (record whole { node_entries = c.new.result }) listed c.in_ok-tables.tables c.in_ok-tables.ensures.list c.has_fault.result _ c.has_fault.ensures c.if-has_fault.true
 
 pub returns-clause-semantic : goal.returns-clause-semantic
 returns-clause-semantic c =
     let whole = c.in_ok-list.list in
-    let listed = list_of (alone c.args.root.now) whole c.new.result c.in_ok-list.ensures.places c.in_ok-list.ensures.scopes c.in_ok-list.ensures.scope_nodes c.in_ok-list.ensures.withs c.in_ok-list.ensures.nested_nodes c.in_ok-list.ensures.class_bodies in
-    analysed (alone c.args.root.now) whole (record whole { node_entries = c.new.result }) listed c.in_ok-tables.tables c.in_ok-tables.ensures.list _ c.in_ok-scoping.ensures.scoping c.in_ok-scoping.ensures.tables c.in_ok-classes.ensures c.in_ok-nodes.ensures.nodes c.in_ok-nodes.ensures.few
+    let listed = list_of (alone c.args.root.now) whole c.new.result c.in_ok-list.ensures.places c.in_ok-list.ensures.scopes c.in_ok-list.ensures.scope_nodes c.in_ok-list.ensures.withs c.in_ok-list.ensures.nested_nodes c.in_ok-list.ensures.class_bodies c.in_ok-list.ensures.class_lines c.in_ok-list.ensures.bounded.class_bodies in
+    analysed (alone c.args.root.now) whole (record whole { node_entries = c.new.result }) listed c.in_ok-tables.tables c.in_ok-tables.ensures.list _ c.in_ok-scoping.ensures.scoping c.in_ok-scoping.ensures.tables c.in_ok-classes.ensures.classes c.in_ok-classes.ensures.parents c.in_ok-nodes.ensures.nodes c.in_ok-nodes.ensures.few
     (fault_told (alone c.args.root.now) whole (record whole { node_entries = c.new.result }) listed c.in_ok-tables.tables c.in_ok-tables.ensures.list c.has_fault.result _ c.has_fault.ensures c.if-has_fault.false)
