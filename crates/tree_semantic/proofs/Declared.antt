@@ -12,7 +12,6 @@ use Rattle.class_tables.specs.Outwards.{nearest}
 use Rattle.class_tables.specs.PrivateTables.{IsWhole, list_in}
 use Rattle.class_tables.specs.Tables.{AreTablesOf, found_in}
 use Rattle.class_tables.specs.declared.class_table.ClassTable.{ClassTable}
-use Rattle.class_tables.specs.declared.nearest.Found.{Found}
 use Rattle.class_tables.specs.declared.private_table.PrivateTable.{PrivateTable}
 use Rattle.place_list.specs.TableViews.{places_in}
 use Rattle.place_list.specs.declared.tables.PlaceList.{PlaceList}
@@ -31,8 +30,8 @@ some_mapped f (Some x) = refl
 class_bound : (ts : List ClassTable) (ps : List Place) → AreTablesOf ts ps → (x : Text) (cs : List ℕ) → is_some (declaring_class ps x cs) ≡ is_some (private_binder same_name ps x cs)
 class_bound ts ps held x cs =
     ap (λ (o : Option ℕ). is_some o) (sym (class_is ts ps held x cs))
-    ∙ some_mapped (λ (f : Found). f.class) (nearest (found_in ts x) cs)
-    ∙ sym (some_mapped (λ (f : Found). f.node) (nearest (found_in ts x) cs))
+    ∙ some_mapped _ (nearest (found_in ts x) cs)
+    ∙ sym (some_mapped _ (nearest (found_in ts x) cs))
     ∙ ap (λ (o : Option ℕ). is_some o) (binder_is ts ps held x cs)
 
 place_bound : (ts : List ClassTable) (ps : List Place) → AreTablesOf ts ps → (p : Place) → is_some (class_of_place ps p) ≡ is_some (private_binding same_name ps p)
@@ -54,7 +53,7 @@ nothing_undeclared : (ps : List Place) → has_fault same_name ps ≡ false → 
 unfolding has_fault
 nothing_undeclared ps sound =
     tested (has_undeclared same_name ps)
-    (λ u. absurd (both_ways _ (or_left _ _ (or_right (has_redeclaration same_name ps || has_crossing same_name ps || has_sloppy_function ps) _ u)) sound))
+    (λ u. absurd (both_ways _ sound (or_left _ (has_reach (bound same_name ps)) (or_right (has_redeclaration same_name ps || has_crossing same_name ps || has_sloppy_function ps) _ u))))
     (λ e. e)
 
 module _ (ps : List Place) (sound : has_fault same_name ps ≡ false) (joined : (p : Place) → is_some (class_of_place ps p) ≡ is_some (private_binding same_name ps p)) where
@@ -63,11 +62,11 @@ module _ (ps : List Place) (sound : has_fault same_name ps ≡ false) (joined : 
   has_class p i = joined p ∙ go p.site.private (private_binder same_name ps p.name p.site.setting.classes) declared
     where
       declared : is_undeclared same_name ps p ≡ false
-      declared = tested (is_undeclared same_name ps p) (λ u. absurd (both_ways _ (any_from (is_undeclared same_name ps) ps p i u) (nothing_undeclared ps sound))) (λ e. e)
+      declared = tested (is_undeclared same_name ps p) (λ u. absurd (both_ways _ (nothing_undeclared ps sound) (any_from (is_undeclared same_name ps) ps p i u))) (λ e. e)
 
       go : (b : Bool) (o : Option ℕ) → (b && not (is_some (if b then o else None))) ≡ false → is_some (if b then o else None) ≡ b
       go false o e = refl
-      go true None e = absurd (both_ways _ refl e)
+      go true None e = absurd (both_ways _ e refl)
       go true (Some n) e = refl
 
   pub class_exactly : (n : ℕ) → is_some (node_class ps n) ≡ is_private_node ps n

@@ -8,6 +8,7 @@ use Rattle.place_list.specs.declared.tables.PlaceList.{PlaceList}
 use Rattle.scope_rules.specs.Bindings.{node, same_name}
 use Rattle.scope_rules.specs.Evals as evals
 use Rattle.scope_rules.specs.PrivateNames as names
+use Rattle.scope_rules.specs.PrivateNames.{private_binding}
 use Rattle.scope_rules.specs.Symbols.{own_number}
 use Rattle.syntax_sem.specs.ClassId as class_id
 use Rattle.tree_nodes.specs.Tree.{Text}
@@ -73,4 +74,4 @@ pub record AreClassesOf (ps : List Place) (count : ℕ) (c : Classes) : Type 0 w
   pub are_open : open_in c ≡ map (evals.is_open ps) (range_with_len 0 count)
   pub by_node : (n : ℕ) → get_or c.node_classes.items n None ≡ node_class ps n
   -- a private name has a class exactly where it has a binding
-  pub bound : (p : Place) → is_some (class_of_place ps p) ≡ is_some (names.private_binding same_name ps p)
+  pub bound : (p : Place) → is_some (class_of_place ps p) ≡ is_some (private_binding same_name ps p)

@@ -5,7 +5,7 @@ use Rattle.place_list.specs.TableViews.{withs_in}
 use Rattle.scope_rules.specs.Bindings.{same_name}
 use Rattle.scope_rules.specs.Faults.{has_fault}
 use Rattle.tree_nodes.specs.Tree.{Parts}
-use Rattle.tree_places.specs.Places.{places, scopes, seen, withs}
+use Rattle.tree_places.specs.Places as spec
 use Rattle.tree_semantic.specs.ClassBodies.{AreClassesOf, next_outwards, parents_in}
 use Rattle.tree_semantic.specs.Nodes.{nodes_in, told}
 use Rattle.tree_semantic.specs.declared.classes.Classes.{Classes}
@@ -27,15 +27,15 @@ classes_of s = s.classes
 pub record IsSemanticOf (t : Parts) (s : Semantic) : Type 0 where
   pub scoping : IsScoping s.scoping
   pub few_nodes : length (nodes_in s.nodes) ≤ 2 ^ 32 - 1
-  pub places : places_of s.scoping ≡ places t
-  pub scopes : scopes_of s.scoping ≡ scopes t
+  pub places : places_of s.scoping ≡ spec.places t
+  pub scopes : scopes_of s.scoping ≡ spec.scopes t
   pub scope_nodes : scope_nodes_of s.scoping ≡ scope_nodes t
-  pub withs : withs_in (tables_of s.scoping).list ≡ withs t
-  pub class_bodies : length (tables_of s.scoping).list.class_bodies.items ≡ (seen t).classes
+  pub withs : withs_in (tables_of s.scoping).list ≡ spec.withs t
+  pub class_bodies : length (tables_of s.scoping).list.class_bodies.items ≡ (spec.seen t).classes
   pub nodes : nodes_in s.nodes ≡ map told (nested_nodes t)
   pub class_parents : parents_in s.classes ≡ map next_outwards (class_lines t)
-  pub classes : AreClassesOf (places t) (seen t).classes s.classes
-  pub faultless : IsFalse (has_fault same_name (places t))
+  pub classes : AreClassesOf (spec.places t) (spec.seen t).classes s.classes
+  pub faultless : IsFalse (has_fault same_name (spec.places t))
 
 -- so it is for some tree
 pub record IsSemantic (s : Semantic) : Type 0 where

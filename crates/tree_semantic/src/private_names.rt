@@ -51,8 +51,7 @@ impl<'t> PrivateNames<'t> {
         ensures refused { OnErr result ((k : ℕ) (x : Text) → new_name self.new k x ≡ new_name self.old k x) }
     {
         let last = self.classes.len() - 1;
-        self.classes[last].insert(old.as_str(), new)?;
-        Ok(())
+        put(&mut self.classes[last], old.as_str(), new)
     }
 
     /// How many classes there are.
@@ -69,5 +68,20 @@ impl<'t> PrivateNames<'t> {
     {
         let k = id.index();
         self.classes[k].get(name).copied()
+    }
+}
+
+// Puts a new name for an old one. After an Err, which is want of memory, the names are as they were.
+fn put<'t>(
+    names: &mut BTreeMap<&'t str, InlineString<7, u8>>,
+    old: &'t str,
+    new: InlineString<7, u8>,
+) -> Result<(), AllocError>
+    ensures put { OnOk result ((x : Text) → name_in names.new x ≡ (if same_name old.now x then Some new else name_in names.old x)) }
+    ensures refused { OnErr result ((x : Text) → name_in names.new x ≡ name_in names.old x) }
+{
+    match names.insert(old, new) {
+        Ok(_) => Ok(()),
+        Err(_) => Err(AllocError),
     }
 }

@@ -20,7 +20,7 @@ use syntax_sem::symbol::SymbolId;
 use tree_symbols::Scoping;
 
 /// How many nodes, scopes, symbols and references there are.
-#[derive(Clone, Copy)]
+#[derive(Clone, Copy, Debug, PartialEq, Eq)]
 pub struct Stats {
     pub nodes: u32,
     pub scopes: u32,

@@ -9,12 +9,12 @@ use Rattle.tree_semantic.proofs.classes.class_of_name.Goals as goal
 pub declaring_class-requires-clause-index : goal.declaring_class-requires-clause-index
 declaring_class-requires-clause-index c = subst (λ (l : PlaceList). c.args.i < length l.places.items) (sym c.requires.list) c.requires.index
 
-pub returns-then-place-private : goal.returns-then-place-private
-returns-then-place-private c =
+pub returns-then-place : goal.returns-then-place
+returns-then-place c =
     let l = c.args.list.now in
-    class_told l c.args.i _ (read_at l.places.items c.args.i _ c.requires.index c.index-place.ensures) (list_in c.args.table.now) c.requires.list c.declaring_class.result c.if-place-private.true c.declaring_class.ensures
+    class_told l c.args.i _ (read_at l.places.items c.args.i _ c.requires.index c.index-place.ensures) (list_in c.args.table.now) c.requires.list c.declaring_class.result c.if-place.true c.declaring_class.ensures
 
-pub returns-else-place-private : goal.returns-else-place-private
-returns-else-place-private c =
+pub returns-else-place : goal.returns-else-place
+returns-else-place c =
     let l = c.args.list.now in
-    none_told l c.args.i _ (read_at l.places.items c.args.i _ c.requires.index c.index-place.ensures) c.if-place-private.false
+    none_told l c.args.i _ (read_at l.places.items c.args.i _ c.requires.index c.index-place.ensures) c.if-place.false
