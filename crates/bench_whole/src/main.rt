@@ -1,31 +1,22 @@
-//! A timing program: mangles the ESTree in JSON on standard input by the stages of a run, under the default options,
-//! writes the answer to standard output, and tells on standard error, a line a stage, how many microseconds each
-//! stage took. Without words it does nothing.
+//! A timing program: reads an ESTree in JSON from standard input, goes through the stages of a run under the default
+//! options, writes the tree again, and tells on standard error, a line a stage, how many microseconds each took. The
+//! tree is written under its old names, since it is renamed last. Without words it does nothing.
 #![tactic(auto)]
 
 mod stages;
 mod watch;
 
-use mangle_tool::adapters::{ReaderSource, WriterSink};
-use mangle_tool::read_all::read_all;
-use mangle_tool::run::INPUT_LIMIT;
-use mangle_tool::write_whole::write_whole;
-use stages::answer;
+use stages::work;
 use std::process::ExitCode;
 use std::{env, io};
 use watch::{now, tell};
 
-// Reads, answers and writes; None where a stage fails.
+// Reads and goes through the stages; None where one fails.
 fn mangle(rt: &HostRuntime) -> Option<()> {
     let start = now(rt)?;
-    let mut source = ReaderSource::new(rt.stdin());
-    let input = read_all(rt.alloc(), &mut source, INPUT_LIMIT).ok()?;
+    let input = io::read_to_string(rt.alloc(), rt.stdin()).ok()?;
     tell(rt, "read", start)?;
-    let text = answer(rt, input.as_slice())?;
-    let start = now(rt)?;
-    let mut sink = WriterSink::new(rt.stdout());
-    write_whole(&mut sink, text.as_bytes()).ok()?;
-    tell(rt, "write", start)
+    work(rt, input.as_bytes())
 }
 
 // Whether there is a word.

@@ -1,14 +1,9 @@
-//! The stages of a run between reading bytes and writing them, each timed; None where one fails.
+//! The stages of a run behind the reading of bytes, each timed; None where one fails.
 
-ghost use Rattle.std.specs.List.{AllByRecursion};
-ghost use Rattle.std.specs.Prelude.{◌≤◌, ◌+◌, ◌<◌, ◌^◌, IfOk, IfSome, IsTrue, length, string_bytes};
-ghost use Rattle.mangle_options.specs.Settings.{options_in, reserved_in};
-ghost use Rattle.new_names.specs.NewNames.{AreNewNames, IsList, IsListOf};
+ghost use Rattle.std.specs.Prelude.{◌≤◌, ◌+◌, ◌^◌, length};
+ghost use Rattle.mangle_options.specs.Settings.{reserved_in};
+ghost use Rattle.new_names.specs.NewNames.{IsList};
 ghost use Rattle.scope_tables.specs.WholeTree.{AreTables};
-ghost use Rattle.syntax_lex.specs.Identifier.{is_identifier_name};
-ghost use Rattle.tree_nodes.specs.Tree.{Parts, alone};
-ghost use Rattle.tree_places.specs.Chosen.{spare_plain};
-ghost use Rattle.tree_places.specs.Places.{sites};
 
 use crate::watch::{now, tell};
 use class_tables::PrivateTable;
@@ -20,29 +15,14 @@ use scope_tables::ScopeTables;
 use serde_json::Value;
 use std::alloc::{AllocError, Global};
 use tree_core::{Program, SourceType, read_tree};
-use tree_rename::rename;
+use tree_rename::rename_tree;
 
-// So many places are named at most, and a name has fewer bytes than this.
-const MOST_PLACES: usize = 1 << 30;
-
-const LONG: usize = 1 << 32;
-
-/// The answer to these bytes.
-pub fn answer(rt: &HostRuntime, input: &[u8]) -> Option<String> {
+/// Goes through them for these bytes.
+pub fn work(rt: &HostRuntime, input: &[u8]) -> Option<()> {
     let program = program_of(rt, input)?;
     let given = names_for(rt, &program)?;
-    if !are_short(given.names.as_slice()) {
-        return None;
-    }
-    let start = now(rt)?;
-    let (choices, names) = (given.choices.as_slice(), given.names.as_slice());
-    let mangled = rename(rt.alloc(), program, choices, names).ok()?;
-    tell(rt, "rename", start)?;
-    let start = now(rt)?;
-    let text = text_of(rt.alloc(), &mangled).ok()?;
-    drop(mangled);
-    tell(rt, "print", start)?;
-    Some(text)
+    write(rt, &program)?;
+    rename(rt, program, &given)
 }
 
 // The program in these bytes. The value is let go once the tree is read.
@@ -58,22 +38,24 @@ fn program_of(rt: &HostRuntime, input: &[u8]) -> Option<Program> {
 }
 
 // The new names of the program's places, which has no fault.
-fn names_for(rt: &HostRuntime, program: &Program) -> Option<NewNames>
-    ensures spare { IfSome result (λ given. IsTrue (spare_plain (sites (alone program.now)) given.choices.items)) }
-    ensures identifiers { IfSome result (λ given.
-        AllByRecursion (λ s. IsTrue (is_identifier_name (string_bytes s))) given.names.items) }
-{
+fn names_for(rt: &HostRuntime, program: &Program) -> Option<NewNames> {
     let start = now(rt)?;
-    let tables = ScopeTables::build(rt.alloc(), program.root()).ok()?;
-    if tables.has_fault() || tables.list.places.len() > MOST_PLACES {
+    let Ok(tables) = ScopeTables::build(rt.alloc(), program.root()) else {
+        return None;
+    };
+    if tables.has_fault() {
         return None;
     }
     tell(rt, "analysis", start)?;
     let start = now(rt)?;
     let options = MangleOptions::new(rt.alloc());
     let top_level = !matches!(program.source_type(), SourceType::Script);
-    let given = names_by(rt.alloc(), &options, top_level, &tables).ok()?;
-    drop(tables);
+    if tables.list.places.len() > 1_073_741_824 {
+        return None;
+    }
+    let Ok(given) = names_by(rt.alloc(), &options, top_level, &tables) else {
+        return None;
+    };
     tell(rt, "names", start)?;
     Some(given)
 }
@@ -88,23 +70,35 @@ fn names_by(
     requires tables { AreTables tables.now }
     requires list { IsList tables.now.list }
     requires few { length (reserved_in options.now) + length tables.now.list.places.items ≤ 2 ^ 30 }
-    ensures { IfOk result (λ given. (t : Parts) → IsListOf tables.now.list t
-        → AreNewNames (options_in options.now top_level) t tables.now.list given) }
 {
     let private = PrivateTable::new(alloc, &tables.list)?;
     let numbers = PrivateNumbers::new(alloc, &private)?;
     new_names(alloc, alloc, options, top_level, tables, &numbers)
 }
 
-// Whether each of these has few enough bytes to be a name of a program.
-fn are_short(names: &[String]) -> bool
-    ensures { IsTrue result → AllByRecursion (λ s. length (string_bytes s) < 2 ^ 32) names.now }
-{
-    names.iter().all(|name| name.len() < LONG)
+// The text of a program's tree and of the paths to its literals, printed and written.
+fn write(rt: &HostRuntime, program: &Program) -> Option<()> {
+    let start = now(rt)?;
+    let text = text_of(rt.alloc(), program).ok()?;
+    tell(rt, "print", start)?;
+    let start = now(rt)?;
+    print!(rt; "{}", text).ok()?;
+    tell(rt, "write", start)
 }
 
-// The text of a program's tree and of the paths to its literals.
 fn text_of(alloc: Global, program: &Program) -> Result<String, AllocError> {
     let serializer = ESTreeSerializer::<ConfigFixes, CompactFormatter>::new(alloc, false, false)?;
     serializer.serialize_with_fixes(program)
+}
+
+// Renames, and lets the tree go.
+fn rename(rt: &HostRuntime, program: Program, given: &NewNames) -> Option<()> {
+    let start = now(rt)?;
+    let root = program.into_root();
+    let (choices, names) = (given.choices.as_slice(), given.names.as_slice());
+    let renamed = rename_tree(rt.alloc(), root, choices, names).ok()?;
+    tell(rt, "rename", start)?;
+    let start = now(rt)?;
+    drop(renamed);
+    tell(rt, "let_go", start)
 }
