@@ -20,7 +20,7 @@ use Rattle.tree_nodes.specs.declared.table.Role.TheVariants.{Read}
 use Rattle.tree_places.specs.Open.{all_open}
 use Rattle.tree_places.specs.Places.{Around, Seen, Setting, Site, at_field, enter, hide, met, nowhere, seen, sites, walk}
 
-abbrev body_column : Column
+abbrev pub body_column : Column
 body_column = inner (node (codes "body") (Many (ModuleItems 1)))
 
 -- what holds at a module's statements

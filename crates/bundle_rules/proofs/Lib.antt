@@ -11,3 +11,4 @@ pub mod BundleScopes
 -- bindings under the new names
 pub mod KeptApart
 pub mod BundleBindings
+pub mod NodesLie

@@ -5,4 +5,4 @@
 
 mod laws;
 
-pub use laws::{bundles_keep_bindings, joining_moves_places};
+pub use laws::{bundles_keep_bindings, joining_moves_places, modules_share_no_binding};
