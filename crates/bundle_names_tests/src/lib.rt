@@ -1,9 +1,0 @@
-//! Tests of `bundle_names` over its public calls. They stand here, since a crate with tests is proved twice.
-#![tactic(auto)]
-
-#[cfg(test)]
-mod joined;
-#[cfg(test)]
-mod programs;
-#[cfg(test)]
-mod refused;
