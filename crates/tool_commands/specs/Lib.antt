@@ -1,6 +1,0 @@
-pub mod Command
-pub mod Map
-pub mod Mapped
-pub mod Restore
-pub mod Status
-pub mod Tool
