@@ -3,12 +3,13 @@
 
 use mangle_tool::adapters::{ReaderSource, WriterSink};
 use mangle_tool::estree::CompactStr;
-use mangle_tool::run::run;
-use mangle_tool::status::{Status, status_line};
+use mangle_tool::status::Status;
 use std::alloc::Global;
 use std::env::{self, Args};
 use std::io::{self, ErrorKind};
 use std::process::ExitCode;
+use tool_commands::run_tool::run_tool;
+use tool_commands::tool_status::{ToolStatus, tool_line};
 
 // The most bytes that a word may have.
 const LONGEST_WORD: usize = 0xFFFF_FFFF;
@@ -27,11 +28,14 @@ fn main(rt: HostRuntime) -> ExitCode {
         Ok(words) => {
             let mut source = ReaderSource::new(rt.stdin());
             let mut sink = WriterSink::new(rt.stdout());
-            let status = run(rt.alloc(), words.as_slice(), &mut source, &mut sink);
-            (status_line(status), status.number())
+            let status = run_tool(rt.alloc(), words.as_slice(), &mut source, &mut sink);
+            (tool_line(status), status.number())
         }
         Err(NoWords::Unreadable) => ("mangle: unreadable word", 1),
-        Err(NoWords::Memory) => (status_line(Status::Memory), Status::Memory.number()),
+        Err(NoWords::Memory) => {
+            let status = ToolStatus::Base(Status::Memory);
+            (tool_line(status), status.number())
+        }
     };
     if !line.is_empty() {
         let _ = eprintln!(rt; "{line}");

@@ -1,0 +1,8 @@
+-- a program beside its map, as it is written and as it is read
+pub mod MapTexts
+pub mod Pairs
+-- what the commands answer
+pub mod MapAnswers
+-- words, and what is read and written by them
+pub mod Commands
+pub mod Ends

@@ -1,0 +1,14 @@
+//! The commands of the program: a run, and what a mangling can be followed by.
+#![tactic(auto)]
+
+mod command;
+mod map_answer;
+mod mapped_text;
+mod pair;
+mod refusal;
+mod restored_answer;
+pub mod run_tool;
+pub mod tool_status;
+
+pub use command::{ToolWork, read_tool_words};
+pub use refusal::Refusal;

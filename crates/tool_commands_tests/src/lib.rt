@@ -1,0 +1,5 @@
+//! Tests of `tool_commands` over its public calls. They stand here, since a crate with tests is proved twice.
+#![tactic(auto)]
+
+#[cfg(test)]
+mod tests;
