@@ -1,6 +1,8 @@
 //! Inputs and their answers: what is wrapped, what is no JSON, what nests too deeply.
 
-use crate::samples::{EMPTY_ANSWER, EMPTY_MODULE, LET_ANSWER, LET_MODULE, usual_answer};
+use crate::samples::{
+    EMPTY_ANSWER, EMPTY_MODULE, ESCAPES, ESCAPES_ANSWER, LET_ANSWER, LET_MODULE, usual_answer,
+};
 use mangle_tool::estree::{Layout, MangleError, MangleOptions, mangle_value};
 use serde_json::Value;
 use std::alloc::{AllocError, Global};
@@ -13,6 +15,7 @@ fn answers_are_read_again(rt: HostRuntime) -> Result<(), Fail> {
         (EMPTY_ANSWER, EMPTY_ANSWER),
         (LET_MODULE, LET_ANSWER),
         (LET_ANSWER, LET_ANSWER),
+        (ESCAPES, ESCAPES_ANSWER),
         (
             "{\"fixes\":[0,{\"a\":null}],\"node\":{\"type\":\"Program\",\"body\":[],\"sourceType\":\"module\"}}",
             EMPTY_ANSWER,

@@ -23,6 +23,14 @@ pub(crate) const LET_MODULE: &str =
 pub(crate) const LET_ANSWER: &str =
     "{\"node\":\n{\"type\":\"Program\",\"start\":0,\"end\":12,\"body\":[{\"type\":\"VariableDeclaration\",\"start\":0,\"end\":10,\"kind\":\"let\",\"declarations\":[{\"type\":\"VariableDeclarator\",\"start\":4,\"end\":9,\"id\":{\"type\":\"Identifier\",\"start\":4,\"end\":5,\"name\":\"e\"},\"init\":{\"type\":\"Literal\",\"start\":8,\"end\":9,\"value\":1,\"raw\":\"1\"}}]},{\"type\":\"ExpressionStatement\",\"start\":11,\"end\":12,\"expression\":{\"type\":\"Identifier\",\"start\":11,\"end\":12,\"name\":\"e\"}}],\"sourceType\":\"module\",\"hashbang\":null}\n,\"fixes\":[]}";
 
+// A module of two strings that hold each character which has to be escaped, the second as code units with lone surrogates.
+pub(crate) const ESCAPES: &str =
+    "{\"type\":\"Program\",\"start\":0,\"end\":0,\"body\":[{\"type\":\"ExpressionStatement\",\"start\":0,\"end\":0,\"expression\":{\"type\":\"Literal\",\"start\":0,\"end\":0,\"value\":\"\\u0000\\u0001\\u0002\\u0003\\u0004\\u0005\\u0006\\u0007\\u000b\\u000e\\u000f\\u0010\\u0011\\u0012\\u0013\\u0014\\u0015\\u0016\\u0017\\u0018\\u0019\\u001a\\u001b\\u001c\\u001d\\u001e\\u001f\\b\\t\\n\\f\\r\\\"\\\\\\/\",\"raw\":\"\\\"\\\"\"}},{\"type\":\"ExpressionStatement\",\"start\":0,\"end\":0,\"expression\":{\"type\":\"Literal\",\"start\":0,\"end\":0,\"value\":[55356,8,34,57156],\"raw\":\"\\\"\\\"\"}}],\"sourceType\":\"module\",\"hashbang\":null}";
+
+// The answer to it.
+pub(crate) const ESCAPES_ANSWER: &str =
+    "{\"node\":\n{\"type\":\"Program\",\"start\":0,\"end\":0,\"body\":[{\"type\":\"ExpressionStatement\",\"start\":0,\"end\":0,\"expression\":{\"type\":\"Literal\",\"start\":0,\"end\":0,\"value\":\"\\u0000\\u0001\\u0002\\u0003\\u0004\\u0005\\u0006\\u0007\\u000b\\u000e\\u000f\\u0010\\u0011\\u0012\\u0013\\u0014\\u0015\\u0016\\u0017\\u0018\\u0019\\u001a\\u001b\\u001c\\u001d\\u001e\\u001f\\b\\t\\n\\f\\r\\\"\\\\/\",\"raw\":\"\\\"\\\"\"}},{\"type\":\"ExpressionStatement\",\"start\":0,\"end\":0,\"expression\":{\"type\":\"Literal\",\"start\":0,\"end\":0,\"value\":\"\\ud83c\\b\\\"\\udf44\",\"raw\":\"\\\"\\\"\"}}],\"sourceType\":\"module\",\"hashbang\":null}\n,\"fixes\":[]}";
+
 // A text of 27 bytes.
 pub(crate) const TEXT: &[u8] = b"{\"node\":\n{\"type\":\"Program\"}";
 
