@@ -1,4 +1,5 @@
 pub mod NodesTold
+pub mod BodiesFound
 pub mod ClassesTold
 pub mod Declared
 pub mod Renaming

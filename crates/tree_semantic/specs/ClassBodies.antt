@@ -1,8 +1,8 @@
 -- The classes of a tree by ids, as data.
-use Rattle.std.specs.Prelude.{◌≡◌, ℕ, Bool, false, List, [], ◌∷◌, map, length, take, get_or, slice_get, Option, Some, None, is_some, option_map, find, nat_eq, ⊤, if◌then◌else◌}
+use Rattle.std.specs.Prelude.{◌≡◌, ℕ, Bool, false, List, [], ◌∷◌, map, length, take, get_or, Option, Some, None, is_some, option_map, find, nat_eq, ⊤, if◌then◌else◌}
 use Rattle.std.specs.List.{AllByRecursion, range_with_len}
 use Rattle.oxc_str.specs.Ident.{ident_text}
-use Rattle.place_list.specs.TableViews.{class_parents, places_in}
+use Rattle.place_list.specs.TableViews.{places_in}
 use Rattle.place_list.specs.declared.tables.PlaceEntry.{PlaceEntry}
 use Rattle.place_list.specs.declared.tables.PlaceList.{PlaceList}
 use Rattle.scope_rules.specs.Bindings.{node, same_name}
@@ -48,16 +48,16 @@ is_private_node ps n = elim (find (λ p. nat_eq (node p) n) ps) [ None ↦ false
 abbrev pub nodes_of : List PlaceEntry → List ℕ
 nodes_of es = map (λ e. e.node) es
 
--- the row of the class c of a list
-pub record IsRowOf (l : PlaceList) (c : ℕ) (r : ClassRow) : Type 0 where
-  pub parent : Some (option_map class_id.number_of r.parent) ≡ slice_get (class_parents l) c
+-- the row of the class c of a list, in the class body of this number
+pub record IsRowOf (l : PlaceList) (parent : Option ℕ) (c : ℕ) (r : ClassRow) : Type 0 where
+  pub parent_is : option_map class_id.number_of r.parent ≡ parent
   pub names : map ident_text r.names.items ≡ names.private_names (places_in l) c
   pub is_open : r.is_open ≡ evals.is_open (places_in l) c
 
--- these are the rows of the first so many classes of a list
-pub record AreRowsOf (l : PlaceList) (count : ℕ) (rs : List ClassRow) : Type 0 where
+-- these are the rows of the first so many classes of a list, in the class bodies of these numbers
+pub record AreRowsOf (l : PlaceList) (parents : List (Option ℕ)) (count : ℕ) (rs : List ClassRow) : Type 0 where
   pub many : length rs ≡ count
-  pub parents : map (λ r. option_map class_id.number_of r.parent) rs ≡ take count (class_parents l)
+  pub parents_are : map (λ r. option_map class_id.number_of r.parent) rs ≡ take count parents
   pub names : map (λ r. map ident_text r.names.items) rs ≡ map (names.private_names (places_in l)) (range_with_len 0 count)
   pub are_open : map (λ r. r.is_open) rs ≡ map (evals.is_open (places_in l)) (range_with_len 0 count)
 

@@ -1,4 +1,5 @@
 pub mod Nodes
+pub mod ClassesAround
 pub mod ClassBodies
 pub mod Renamed
 pub mod Semantics

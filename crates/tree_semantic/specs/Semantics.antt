@@ -6,7 +6,8 @@ use Rattle.scope_rules.specs.Bindings.{same_name}
 use Rattle.scope_rules.specs.Faults.{has_fault}
 use Rattle.tree_nodes.specs.Tree.{Parts}
 use Rattle.tree_places.specs.Places as spec
-use Rattle.tree_semantic.specs.ClassBodies.{AreClassesOf}
+use Rattle.tree_semantic.specs.ClassBodies.{AreClassesOf, parents_in}
+use Rattle.tree_semantic.specs.ClassesAround.{outer_classes}
 use Rattle.tree_semantic.specs.Nodes.{nodes_in, told}
 use Rattle.tree_semantic.specs.declared.classes.Classes.{Classes}
 use Rattle.tree_semantic.specs.declared.nodes.AstNodes.{AstNodes}
@@ -34,6 +35,7 @@ pub record IsSemanticOf (t : Parts) (s : Semantic) : Type 0 where
   pub class_bodies : length (tables_of s.scoping).list.class_bodies.items ≡ (spec.seen t).classes
   pub nodes : nodes_in s.nodes ≡ map told (nested_nodes t)
   pub classes : AreClassesOf (spec.places t) (spec.seen t).classes s.classes
+  pub class_parents : parents_in s.classes ≡ outer_classes t
   pub faultless : IsFalse (has_fault same_name (spec.places t))
 
 -- so it is for some tree

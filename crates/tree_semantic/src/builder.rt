@@ -3,6 +3,7 @@
 ghost use Rattle.std.specs.Prelude.{◌≡◌, IfErr, IfOk, IfSome, IsTrue, false, is_some};
 ghost use Rattle.scope_rules.specs.Bindings.{same_name};
 ghost use Rattle.scope_rules.specs.Faults.{has_fault};
+ghost use Rattle.tree_core.specs.Program.{IsProgram};
 ghost use Rattle.tree_nodes.specs.Tree.{alone};
 ghost use Rattle.tree_places.specs.Places.{places};
 ghost use Rattle.tree_semantic.specs.Semantics.{IsSemantic, IsSemanticOf};
@@ -76,6 +77,7 @@ impl SemanticBuilder {
 
 // The analysis of a tree, if its scopes have no fault. Err is want of memory, or of numbers.
 fn analyse<'t>(alloc: Global, root: &'t Node) -> Result<Option<Semantic<'t>>, AllocError>
+    requires { IsProgram root.now }
     ensures semantic { IfOk result (λ found. IfSome found (λ s. IsSemanticOf (alone root.now) s)) }
     ensures faulty { IfOk result (λ found. is_some found ≡ false → IsTrue (has_fault same_name (places (alone root.now)))) }
 {
@@ -87,7 +89,7 @@ fn analyse<'t>(alloc: Global, root: &'t Node) -> Result<Option<Semantic<'t>>, Al
     if tables.has_fault() {
         return Ok(None);
     }
-    let classes = Classes::build(alloc, &tables.list)?;
+    let classes = Classes::build(alloc, &tables.list, &nodes)?;
     let scoping = Scoping::build(alloc, tables)?;
     Ok(Some(Semantic {
         scoping,

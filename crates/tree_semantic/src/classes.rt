@@ -13,8 +13,12 @@ ghost use Rattle.syntax_sem.specs.ClassId as class_id;
 ghost use Rattle.syntax_sem.specs.NodeId as node_id;
 ghost use Rattle.tree_places.specs.Laws as laws;
 ghost use Rattle.tree_places.specs.Places.{Place};
-ghost use Rattle.tree_semantic.specs.ClassBodies.{AreClassesOf, AreRowsOf, IsRowOf, class_of_place, is_private_node, names_in, node_class, nodes_of, open_in, parents_in};
+ghost use Rattle.tree_semantic.specs.ClassBodies.{AreClassesOf, LeadOutwards, AreRowsOf, IsRowOf, class_of_place, is_private_node, names_in, node_class, nodes_of, open_in, parents_in};
+ghost use Rattle.tree_semantic.specs.ClassesAround.{parents_told};
+ghost use Rattle.tree_semantic.specs.Nodes.{nodes_in};
 
+use crate::around::{class_parents, number_or_none};
+use crate::nodes::AstNodes;
 use class_tables::PrivateTable;
 use number_tables::place_numbers;
 use oxc_str::{Ident, new_const_ident};
@@ -39,17 +43,26 @@ pub struct Classes<'t> {
 }
 
 impl<'t> Classes<'t> {
-    /// The classes of the tree whose places these are. Err is want of memory, or of numbers.
-    pub(crate) fn build(alloc: Global, list: &PlaceList<'t>) -> Result<Self, AllocError>
+    /// The classes of the tree whose places and nodes these are. Err is want of memory, or of numbers.
+    pub(crate) fn build(
+        alloc: Global,
+        list: &PlaceList<'t>,
+        nodes: &AstNodes<'t>,
+    ) -> Result<Self, AllocError>
         requires bounded { IsBounded (list_view list.now) }
         requires rising { laws.RiseFrom 0 (nodes_of list.now.places.items) }
-        ensures { IfOk result (λ c. AreClassesOf (places_in list.now) (length list.now.class_bodies.items) c) }
+        requires few { length (nodes_in nodes.now) ≤ 2 ^ 32 - 1 }
+        requires counted { length (parents_told (nodes_in nodes.now)) ≡ length list.now.class_bodies.items }
+        requires outwards { AllByRecursion (λ p. LeadOutwards (parents_told (nodes_in nodes.now)) p.site.setting.classes) (places_in list.now) }
+        ensures classes { IfOk result (λ c. AreClassesOf (places_in list.now) (length list.now.class_bodies.items) c) }
+        ensures parents { IfOk result (λ c. parents_in c ≡ parents_told (nodes_in nodes.now)) }
     {
         if list.class_bodies.len() > 4_294_967_295 {
             return Err(AllocError);
         }
         let table = PrivateTable::new(alloc, list)?;
-        let rows = class_rows(alloc, list, &table)?;
+        let parents = class_parents(alloc, nodes)?;
+        let rows = class_rows(alloc, list, &table, parents.as_slice())?;
         let node_classes = classes_by_node(alloc, list, &table)?;
         Ok(Classes { rows, node_classes })
     }
@@ -99,13 +112,6 @@ impl<'t> Classes<'t> {
     }
 }
 
-// What a row has there, and none past its end.
-fn number_or_none(row: &[Option<u32>], n: usize) -> Option<u32>
-    ensures { result ≡ get_or row.now n None }
-{
-    if n < row.len() { row[n] } else { None }
-}
-
 // The class of this number, if there is one.
 fn class_of(number: Option<u32>) -> Option<ClassId>
     ensures { option_map class_id.number_of result ≡ number }
@@ -116,41 +122,42 @@ fn class_of(number: Option<u32>) -> Option<ClassId>
     }
 }
 
-// The classes, by number.
+// The classes, by number, each with the one around it.
 fn class_rows<'t>(
     alloc: Global,
     list: &PlaceList<'t>,
     table: &PrivateTable<'_, 't>,
+    parents: &[Option<u32>],
 ) -> Result<Vec<ClassRow<'t>>, AllocError>
     requires whole { IsWhole table.now }
     requires list { list_in table.now ≡ list.now }
     requires few { length list.now.class_bodies.items ≤ 2 ^ 32 - 1 }
-    ensures { IfOk result (λ v. AreRowsOf list.now (length list.now.class_bodies.items) v.items) }
+    requires counted { length parents.now ≡ length list.now.class_bodies.items }
+    ensures { IfOk result (λ v. AreRowsOf list.now parents.now (length list.now.class_bodies.items) v.items) }
 {
     let mut rows = Vec::new(alloc);
-    for c in 0..list.class_bodies.len() {
-        rows.push(class_row(alloc, list, table, c)?)?;
+    for c in 0..parents.len() {
+        rows.push(class_row(alloc, table, c, parents[c])?)?;
     }
     Ok(rows)
 }
 
-// The class of this number.
+// The class of this number, in the class body of that one.
 fn class_row<'t>(
     alloc: Global,
-    list: &PlaceList<'t>,
     table: &PrivateTable<'_, 't>,
     c: usize,
+    parent: Option<u32>,
 ) -> Result<ClassRow<'t>, AllocError>
     requires whole { IsWhole table.now }
-    requires list { list_in table.now ≡ list.now }
-    requires class { c < length list.now.class_bodies.items }
+    requires class { c < length (list_in table.now).class_bodies.items }
     requires few { c < 2 ^ 32 - 1 }
-    ensures { IfOk result (λ r. IsRowOf list.now c r) }
+    ensures { IfOk result (λ r. IsRowOf (list_in table.now) parent c r) }
 {
     let number = c as u32;
     let names = idents(alloc, table.private_names(number))?;
     Ok(ClassRow {
-        parent: class_of(list.class_bodies[c].parent),
+        parent: class_of(parent),
         names,
         is_open: table.is_open(number),
     })

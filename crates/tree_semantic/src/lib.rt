@@ -1,6 +1,7 @@
 //! The analysis of a program without faults: its symbols, references and scopes, its nodes and its classes, by ids.
 #![tactic(auto)]
 
+mod around;
 mod builder;
 mod classes;
 mod nodes;
