@@ -1,22 +1,24 @@
 -- What a pass over the nodes of a tree finds of the class bodies is what the walk of the tree says: in a tree whose nodes stand where they may, all that lies in a class body lies inside it.
-use Rattle.std.specs.Prelude.{◌≡◌, ◌⊎◌, ◌<◌, ℕ, zero, suc, Bool, true, false, not, ◌||◌, cond, List, [], ◌∷◌, ◌++◌, filter, length, map, get_or, slice_get, Option, Some, None, if◌then◌else◌}
+use Rattle.std.specs.Prelude.{◌≡◌, ◌⊎◌, ◌<◌, ℕ, zero, suc, Bool, true, false, not, ◌&&◌, ◌||◌, cond, List, [], ◌∷◌, ◌++◌, filter, length, map, get_or, slice_get, Option, Some, None, if◌then◌else◌}
 use Rattle.std.specs.List.{AllByRecursion, list_all}
 use Rattle.std.proofs.Common.{refl, sym, ap, ◌∙◌, subst, add-one, arith, inl, inr}
 use Rattle.std.proofs.lemmas.Bool.{and_parts, both_ways}
 use Rattle.std.proofs.lemmas.List.{append-nil, append_assoc, length_push, map_push, map-append}
 use Rattle.std.proofs.lemmas.List.Elements.{filter-append}
 use Rattle.std.proofs.lemmas.Option.{get_or_from_slice_get}
-use Rattle.list_laws.proofs.AllOf.{AllOf, AllOf_weaken}
-use Rattle.place_list.specs.Nodes.{NodeAt, nested, nodes, nodes_from}
+use Rattle.std.proofs.lemmas.Simd.{map-map}
+use Rattle.list_laws.proofs.AllOf.{AllOf, AllOf_reverse, AllOf_weaken}
+use Rattle.place_list.specs.Nodes.{NodeAt, nested, nested_nodes, nodes, nodes_from}
 use Rattle.place_list.specs.ScopeKinds.{scope_kind, value_scope}
 use Rattle.place_list.specs.declared.setting.ScopeKind.{ScopeKind}
+use Rattle.place_list.specs.declared.setting.ScopeKind.TheVariants as scope
 use Rattle.scope_rules.specs.Symbols.{own_number}
 use Rattle.tree_nodes.proofs.EachKind.{of_each}
 use Rattle.tree_nodes.specs.Along.{Along, all, each, first_column, other_columns}
 use Rattle.tree_nodes.specs.Roles.{role_at}
-use Rattle.tree_nodes.specs.Standing.{group_admits, is_sound, stands}
+use Rattle.tree_nodes.specs.Standing.{group_admits, is_placed, is_sound, root_column, stands}
 use Rattle.tree_nodes.specs.Table.{Column, Row, row, unlisted}
-use Rattle.tree_nodes.specs.Tree.{Parts, atom, child, done, many}
+use Rattle.tree_nodes.specs.Tree.{Parts, Text, Tree, alone, atom, child, done, many}
 use Rattle.tree_nodes.specs.declared.kind.Kind.{Kind}
 use Rattle.tree_nodes.specs.declared.table.Class.{Class as FieldClass}
 use Rattle.tree_nodes.specs.declared.table.Class.TheVariants.{Flag}
@@ -25,11 +27,13 @@ use Rattle.tree_nodes.specs.declared.table.Mark.TheVariants.{Usual}
 use Rattle.tree_nodes.specs.declared.table.Opens.{Opens}
 use Rattle.tree_nodes.specs.declared.table.Opens.TheVariants.{BareBlock, Block, ClassMembers, Hoisting, NameHere, Nothing, PrivateNameHere, WithBody}
 use Rattle.tree_nodes.specs.declared.table.Role.{Role}
+use Rattle.tree_nodes.specs.declared.table.Role.TheVariants.{Plain}
 use Rattle.tree_places.specs.Enclosing.{is_class_body}
 use Rattle.place_list.specs.Open.{all_open}
-use Rattle.tree_places.specs.Places.{Around, Seen, Setting, Site, at_field, enter, field_setting, hide, met, opened, side, strict_in, walk, with_mark}
+use Rattle.tree_places.specs.Places.{Around, Seen, Setting, Site, at_field, before_all, enter, field_setting, hide, met, named_by, names, nothing_yet, opened, places, seen, side, sites, strict_in, walk, with_mark}
 use Rattle.tree_places.specs.Scopes.{Scope}
-use Rattle.tree_semantic.specs.ClassesAround.{Found, body_is_at, class_around, found_after, is_body, with_node, with_told}
+use Rattle.tree_semantic.specs.ClassBodies.{LeadOutwards}
+use Rattle.tree_semantic.specs.ClassesAround.{Found, body_is_at, class_around, found_after, is_body, nothing_found, outer_classes, parents_told, with_node, with_told}
 use Rattle.tree_semantic.specs.Nodes.{NodeTold, told}
 
 -- ---- along the class bodies outwards
@@ -79,7 +83,7 @@ then_after f g h s ns a b = record {
 -- ---- a node
 
 -- what it adds to what is met, and what lies inside it
-record Adds (body : Bool) (s t : Seen) (outer inner : List ℕ) : Type 0 where
+record Adds (body : Bool) (s t : Seen) (outer inner : List ℕ) : Type 1 where
   nodes : t.nodes ≡ suc s.nodes
   classes : t.classes ≡ cond body (suc s.classes) s.classes
   inside : inner ≡ cond body (s.classes ∷ outer) outer
@@ -196,7 +200,7 @@ mark_keeps _ fields n o e = refl
 here_inside : (a : Around) (c : Column) (r : Role) (within : Parts) (k : Kind) (fields : Parts) → LiesInside a c → group_admits c.class r within k fields ≡ true → (at_field c a).classes ≡ a.inside.classes
 unfolding all_open
 here_inside a c r within k fields (inl e) h = mark_keeps c.mark a.fields _ _ _ ∙ e
-here_inside a c r within k fields (inr bare) h = absurd (both_ways _ h (bare r within k fields))
+here_inside a c r within k fields (inr bare) h = absurd (both_ways _ (bare r within k fields) h)
 
 -- the columns of a class body all lie inside it
 all_inside : List Column → Bool
@@ -209,11 +213,11 @@ row_encloses : (k : Kind) → encloses_all (row k) ≡ true
 unfolding encloses_all all_inside is_class_body
 row_encloses k = of_each (λ (l : Kind). encloses_all (row l)) refl refl k
 
-columns_lie : (a : Around) (body : Bool) (cs : List Column) → (not body || all_inside cs) ≡ true → a.inside.classes ≡ cond body a.inside.classes a.outside.classes → AllOf (λ c. LiesInside a c) cs
+columns_lie : (a : Around) (body : Bool) (cs : List Column) (own : List ℕ) → (not body || all_inside cs) ≡ true → a.inside.classes ≡ cond body own a.outside.classes → AllOf (λ c. LiesInside a c) cs
 unfolding all_open all_inside
-columns_lie a body [] h e = tt
-columns_lie a true (c ∷ cs) h e = (inl (ap (λ (b : Bool). (side b a).classes) (and_parts c.inside (all_inside cs) h).0), columns_lie a true cs (and_parts c.inside (all_inside cs) h).1 e)
-columns_lie a false (c ∷ cs) h e = (inl (go c.inside), columns_lie a false cs refl e)
+columns_lie a body [] own h e = tt
+columns_lie a true (c ∷ cs) own h e = (inl (ap (λ (b : Bool). (side b a).classes) (and_parts c.inside (all_inside cs) h).0), columns_lie a true cs own (and_parts c.inside (all_inside cs) h).1 e)
+columns_lie a false (c ∷ cs) own h e = (inl (go c.inside), columns_lie a false cs own refl e)
   where
     go : (b : Bool) → (side b a).classes ≡ a.inside.classes
     go true = refl
@@ -245,9 +249,9 @@ both f s ns xs ys grows a =
     subst (λ (g : Found). After f g s (ns ++ (xs ++ ys))) (sym (pass_on f xs ys))
     (subst (λ (ms : List NodeAt). After f (pass (pass f xs) ys) s ms) (append_assoc ns xs ys) (then_after f (pass f xs) (pass (pass f xs) ys) s ((ns ++ xs) ++ ys) grows a))
 
--- a node and what lies in it, where this is found of the class body around it
-in_node : (k : Kind) (b e : ℕ) (fields : Parts) (column : Column) (a : Around) (v : ScopeKind) (s : Seen) (f : Found) (ns : List NodeAt) → NodeAt
-in_node k b e fields column a v s f ns = record {
+-- a node that is met, in this column
+in_node : (k : Kind) (b e : ℕ) (fields : Parts) (column : Column) (a : Around) (v : ScopeKind) (s : Seen) → NodeAt
+in_node k b e fields column a v s = record {
   node = s.nodes;
   tree = record { kind = k; start = b; stop = e; fields = fields };
   parent = a.number;
@@ -256,15 +260,123 @@ in_node k b e fields column a v s f ns = record {
   scope_kind = scope_kind k column v;
 }
 
-node_next : (k : Kind) (b e : ℕ) (fields : Parts) (column : Column) (a : Around) (v : ScopeKind) (s : Seen) (f : Found) (ns : List NodeAt) → Held f s ns
-    → Leads f.parents (at_field column a).classes → get_or f.inside a.number None ≡ own_number (at_field column a).classes
-    → Next f (is_class_body (row k).opens) a.number (met (row k).opens b (at_field column a) (enter (row k) (hide k fields) (at_field column a) s).inside.scope s) (enter (row k) (hide k fields) (at_field column a) s).inside.classes
-    (ns ++ in_node k b e fields column a v s f ns ∷ [])
-unfolding enter in_node body_is_at class_around is_body
-node_next k b e fields column a v s f ns held leads got =
-    let here : Setting = at_field column a in
-    next f (is_class_body (row k).opens) a.number s (met (row k).opens b here (enter (row k) (hide k fields) here s).inside.scope s) here.classes (enter (row k) (hide k fields) here s).inside.classes ns (in_node k b e fields column a v s f ns) refl refl got held leads
-    (adds (row k).opens b (length s.scopes) here (strict_in (row k).strict here.strict (hide k fields)) (enter (row k) (hide k fields) here s).inside.scope s)
+-- it and its fields
+module _ (k : Kind) (b e : ℕ) (fields : Parts) (column : Column) (a : Around) (v : ScopeKind) (s : Seen) (f : Found) (ns : List NodeAt) where
+  abbrev here : Setting
+  here = at_field column a
+
+  abbrev around : Around
+  around = enter (row k) (hide k fields) here s
+
+  abbrev met_then : Seen
+  met_then = met (row k).opens b here around.inside.scope s
+
+  abbrev own_node : NodeAt
+  own_node = in_node k b e fields column a v s
+
+  abbrev found_then : Found
+  found_then = with_node f (is_class_body (row k).opens) a.number
+
+  abbrev within_it : List NodeAt
+  within_it = nodes_from fields (each (row k).columns) around (value_scope k fields) met_then
+
+  abbrev seen_then : Seen
+  seen_then = walk fields (each (row k).columns) around met_then
+
+  added : Adds (is_class_body (row k).opens) s met_then here.classes around.inside.classes
+  unfolding enter
+  added = adds (row k).opens b (length s.scopes) here (strict_in (row k).strict here.strict (hide k fields)) around.inside.scope s
+
+  next_node : Held f s ns → Leads f.parents here.classes → get_or f.inside a.number None ≡ own_number here.classes → Next f (is_class_body (row k).opens) a.number met_then around.inside.classes (ns ++ own_node ∷ [])
+  unfolding in_node body_is_at class_around is_body
+  next_node held leads got = next f (is_class_body (row k).opens) a.number s met_then here.classes around.inside.classes ns own_node refl refl got held leads added
+
+  fields_lie : LieInside around (each (row k).columns)
+  unfolding encloses_all enter
+  fields_lie = columns_lie around (is_class_body (row k).opens) (row k).columns (s.classes ∷ here.classes) (row_encloses k) added.inside
+
+  node_finds : Held f s ns → Leads f.parents here.classes → get_or f.inside a.number None ≡ own_number here.classes
+      → (LieInside around (each (row k).columns) → Held found_then met_then (ns ++ own_node ∷ []) → Stands found_then around → After found_then (pass found_then within_it) seen_then ((ns ++ own_node ∷ []) ++ within_it))
+      → After f (pass f (own_node ∷ within_it)) seen_then (ns ++ (own_node ∷ within_it))
+  unfolding enter in_node with_told found_after is_body told nested
+  node_finds held leads got inner =
+      let n = next_node held leads got in
+      both f seen_then ns (own_node ∷ []) within_it n.after.grows
+      (inner fields_lie n.after.held (record { leads = n.leads; number = n.inside s.nodes held.nodes }))
 
 walk_finds : (x : Parts) (columns : Along) (a : Around) (v : ScopeKind) (s : Seen) (own : Role) (within : Parts) (f : Found) (ns : List NodeAt) → LieInside a columns → stands x columns own within ≡ true
     → Held f s ns → Stands f a → After f (pass f (nodes_from x columns a v s)) (walk x columns a s) (ns ++ nodes_from x columns a v s)
+unfolding all_open in_node found_after
+walk_finds done columns a v s own within f ns lie st held stand = nothing_more f s ns held
+walk_finds (atom x more) columns a v s own within f ns lie st held stand = walk_finds more (other_columns columns) a v s own within f ns (others_lie a columns lie) st held stand
+walk_finds (many items more) columns a v s own within f ns lie st held stand =
+    let xs : List NodeAt = nodes_from items (all (first_column columns)) a v s in
+    let s₁ : Seen = walk items (all (first_column columns)) a s in
+    let one : After f (pass f xs) s₁ (ns ++ xs) = walk_finds items (all (first_column columns)) a v s own within f ns (first_lies a columns lie) (and_parts _ _ st).0 held stand in
+    both f (walk more (other_columns columns) a s₁) ns xs (nodes_from more (other_columns columns) a v s₁) one.grows
+    (walk_finds more (other_columns columns) a v s₁ own within (pass f xs) (ns ++ xs) (others_lie a columns lie) (and_parts _ _ st).1 one.held (still_stands f (pass f xs) a one.grows stand))
+walk_finds (child k b e fields more) columns a v s own within f ns lie st held stand =
+    let c : Column = first_column columns in
+    let r : Role = role_at c.mode own within in
+    let s₂ : Seen = seen_then k b e fields c a v s f ns in
+    let xs : List NodeAt = own_node k b e fields c a v s f ns ∷ within_it k b e fields c a v s f ns in
+    let three : ((group_admits c.class r within k fields && is_sound k fields && stands fields (each (row k).columns) r fields) ≡ true) × (stands more (other_columns columns) own within ≡ true) = and_parts _ _ st in
+    let two : ((group_admits c.class r within k fields && is_sound k fields) ≡ true) × (stands fields (each (row k).columns) r fields ≡ true) = and_parts _ _ three.0 in
+    let same : (at_field c a).classes ≡ a.inside.classes = here_inside a c r within k fields (first_lies a columns lie) (and_parts _ _ two.0).0 in
+    let one : After f (pass f xs) s₂ (ns ++ xs) =
+    node_finds k b e fields c a v s f ns held (subst (λ (cs : List ℕ). Leads f.parents cs) (sym same) stand.leads)
+    (get_or_from_slice_get f.inside a.number (own_number a.inside.classes) None stand.number ∙ ap own_number (sym same))
+    (λ l h t. walk_finds fields (each (row k).columns) _ (value_scope k fields) _ r fields _ _ l two.1 h t) in
+    both f (walk more (other_columns columns) a s₂) ns xs (nodes_from more (other_columns columns) a v s₂) one.grows
+    (walk_finds more (other_columns columns) a v s₂ own within (pass f xs) (ns ++ xs) (others_lie a columns lie) three.1 one.held (still_stands f (pass f xs) a one.grows stand))
+
+-- ---- a whole tree
+
+pub record Told (t : Tree) : Type 0 where
+  pub parents : parents_told (map told (nested_nodes (alone t))) ≡ outer_classes (alone t)
+  pub count : length (parents_told (map told (nested_nodes (alone t)))) ≡ (seen (alone t)).classes
+  pub sites : AllOf (λ x. Leads (parents_told (map told (nested_nodes (alone t)))) x.setting.classes) (sites (alone t))
+
+nothing_held : Held nothing_found nothing_yet []
+unfolding all_open nothing_found
+nothing_held = record { nodes = refl; classes = refl; parents = refl; sites = tt }
+
+root_finds : (t : Tree) → is_placed t ≡ true → After nothing_found (pass nothing_found (nodes (alone t))) (seen (alone t)) ([] ++ nodes (alone t))
+unfolding all_open in_node nothing_found found_after own_number
+root_finds t placed =
+    let r : Role = role_at root_column.mode Plain done in
+    let three : ((group_admits root_column.class r done t.kind t.fields && is_sound t.kind t.fields && stands t.fields (each (row t.kind).columns) r t.fields) ≡ true) × (true ≡ true) = and_parts _ _ placed in
+    let two : ((group_admits root_column.class r done t.kind t.fields && is_sound t.kind t.fields) ≡ true) × (stands t.fields (each (row t.kind).columns) r t.fields ≡ true) = and_parts _ _ three.0 in
+    let xs : List NodeAt = own_node t.kind t.start t.stop t.fields unlisted before_all scope.Function nothing_yet nothing_found [] ∷ within_it t.kind t.start t.stop t.fields unlisted before_all scope.Function nothing_yet nothing_found [] in
+    let one : After nothing_found (pass nothing_found xs) (seen (alone t)) ([] ++ xs) =
+    node_finds t.kind t.start t.stop t.fields unlisted before_all scope.Function nothing_yet nothing_found [] nothing_held tt refl
+    (λ l h s. walk_finds t.fields (each (row t.kind).columns) _ (value_scope t.kind t.fields) _ r t.fields _ _ l two.1 h s) in
+    both nothing_found (seen (alone t)) [] xs [] one.grows (nothing_more (pass nothing_found xs) (seen (alone t)) ([] ++ xs) one.held)
+
+pub bodies_told : (t : Tree) → is_placed t ≡ true → Told t
+unfolding nested_nodes outer_classes parents_told sites
+bodies_told t placed =
+    let held = (root_finds t placed).held in
+    let found : pass nothing_found (nodes (alone t)) ≡ found_after nothing_found (map told (nested_nodes (alone t))) = ap (found_after nothing_found) (sym (map-map told nested (nodes (alone t)))) in
+    record {
+      parents = ap (λ (f : Found). f.parents) (sym found) ∙ held.parents;
+      count = ap (λ (f : Found). length f.parents) (sym found) ∙ held.classes;
+      sites = subst (λ (f : Found). AllOf (λ x. Leads f.parents x.setting.classes) (sites (alone t))) found
+          (AllOf_reverse (λ (x : Site). Leads (pass nothing_found (nodes (alone t))).parents x.setting.classes) (seen (alone t)).sites held.sites);
+    }
+
+-- ---- and of its places
+
+leads_outwards : (ps : List (Option ℕ)) (cs : List ℕ) → Leads ps cs → LeadOutwards ps cs
+leads_outwards ps [] h = tt
+leads_outwards ps (c ∷ outer) h = (get_or_from_slice_get ps c (own_number outer) None h.0, leads_outwards ps outer h.1)
+
+named_lead : (ps : List (Option ℕ)) (ss : List Site) (xs : List Text) → AllOf (λ s. Leads ps s.setting.classes) ss → AllOf (λ p. LeadOutwards ps p.site.setting.classes) (named_by ss xs)
+unfolding named_by
+named_lead ps [] xs a = tt
+named_lead ps (s ∷ ss) [] a = tt
+named_lead ps (s ∷ ss) (x ∷ xs) a = (leads_outwards ps s.setting.classes a.0, named_lead ps ss xs a.1)
+
+pub places_lead : (t : Tree) → Told t → AllOf (λ p. LeadOutwards (parents_told (map told (nested_nodes (alone t)))) p.site.setting.classes) (places (alone t))
+unfolding places
+places_lead t a = named_lead (parents_told (map told (nested_nodes (alone t)))) (sites (alone t)) (names (alone t)) a.sites
