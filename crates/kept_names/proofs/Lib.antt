@@ -1,9 +1,8 @@
 -- loops over places: one that passes, a set, a map of first values
 pub mod AnyPassing
-pub mod MarkedSets
 pub mod FirstValues
 -- places with their bindings
-pub mod BoundPlaces
+pub mod HoldsOfAll
 -- which bindings are kept
 pub mod SymbolsKept
 pub mod NameCauses

@@ -4,7 +4,7 @@ use Rattle.std.specs.BTreeMap.{BTreeMap}
 use Rattle.std.specs.BTreeSet.{BTreeSet}
 use Rattle.std.specs.Option.{option_flatten}
 use Rattle.kept_names.specs.Puts.{at_node}
-use Rattle.kept_names.specs.Sets.{has}
+use Rattle.scope_tables.specs.Sets.{has}
 use Rattle.kept_names.specs.Views.{IsShadowed, bound_of}
 use Rattle.kept_names.specs.declared.bound.BoundPlace.{BoundPlace}
 use Rattle.name_rules.specs.Groups.{group_of}

@@ -1,6 +1,5 @@
 pub mod Views
 pub mod Keeping
-pub mod Sets
 pub mod Marks
 pub mod Puts
 pub mod NamesKept

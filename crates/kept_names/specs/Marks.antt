@@ -4,7 +4,7 @@ use Rattle.std.specs.BTreeMap.{BTreeMap, get_by}
 use Rattle.std.specs.BTreeSet.{BTreeSet}
 use Rattle.std.specs.List.{list_any}
 use Rattle.std.specs.Ordering.{nat_cmp, ordering_then}
-use Rattle.kept_names.specs.Sets.{has}
+use Rattle.scope_tables.specs.Sets.{has}
 use Rattle.kept_names.specs.declared.values.InDeclarator.{InDeclarator}
 use Rattle.name_rules.specs.Kept.{has_value, same_pattern, value_kept}
 use Rattle.name_rules.specs.Options.{Options}

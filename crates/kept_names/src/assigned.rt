@@ -9,9 +9,9 @@ ghost use Rattle.scope_rules.specs.Bindings.{is_node};
 
 use crate::bound::BoundPlace;
 use crate::roles::value_kept;
-use crate::sets::put;
-use crate::sites::refers;
 use mangle_options::MangleOptionsKeepNames;
+use scope_tables::sets::put;
+use scope_tables::sites::refers;
 use std::alloc::{AllocError, Global};
 use std::collections::BTreeSet;
 

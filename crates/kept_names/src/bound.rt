@@ -2,13 +2,15 @@
 
 ghost use Rattle.std.specs.Prelude.{◌≡◌, ◌<◌, IfOk, None, Some, get_or, length, slice_get};
 ghost use Rattle.place_list.specs.TableViews.{places_in};
-ghost use Rattle.scope_rules.specs.Bindings.{bound, same_name};
+ghost use Rattle.place_list.specs.declared.tables.PlaceList.{PlaceList};
+ghost use Rattle.scope_rules.specs.Bindings.{bound, is_binding, same_name};
 ghost use Rattle.scope_tables.specs.Views.{Stands};
 ghost use Rattle.scope_tables.specs.WholeTree.{AreTables};
 ghost use Rattle.kept_names.specs.Views.{AreWhole, IsShadowed, bound_of};
 
 use place_list::PlaceEntry;
 use scope_tables::ScopeTables;
+use scope_tables::sites::{declares, is_node};
 use std::alloc::{AllocError, Global};
 
 // A place with its binding and its shadower, by the numbers of their nodes.
@@ -57,4 +59,12 @@ fn binding_at(bindings: &[Option<u32>], i: usize) -> Option<u32>
     ensures { result ≡ get_or bindings.now i None }
 {
     bindings[i]
+}
+
+// Whether it is its own binding.
+#[tactic(auto, unfolding(scope_rules::specs::Bindings::is_binding, scope_rules::specs::Bindings::is_node, scope_rules::specs::Bindings::node, crate::specs::Views::bound_of, place_list::specs::Tables::place_of, place_list::specs::Tables::site_of))]
+pub(crate) fn is_binding(place: &BoundPlace<'_>) -> bool
+    ensures { (l : PlaceList) → result ≡ is_binding (bound_of l place.now) }
+{
+    declares(&place.place) && is_node(place.binding, place.place.node)
 }

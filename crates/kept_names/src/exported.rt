@@ -7,8 +7,8 @@ ghost use Rattle.place_list.specs.declared.tables.PlaceList.{PlaceList};
 ghost use Rattle.scope_rules.specs.Bindings.{is_node};
 
 use crate::bound::BoundPlace;
-use crate::sets::put;
-use crate::sites::declares;
+use scope_tables::sets::put;
+use scope_tables::sites::declares;
 use std::alloc::{AllocError, Global};
 use std::collections::BTreeSet;
 

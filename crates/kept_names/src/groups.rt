@@ -13,12 +13,11 @@ ghost use Rattle.place_list.specs.TableViews.{places_in, withs_in};
 ghost use Rattle.place_list.specs.declared.tables.PlaceList.{PlaceList};
 ghost use Rattle.scope_tables.specs.WholeTree.{AreTables};
 
-use crate::bound::{BoundPlace, bound_places};
+use crate::bound::{BoundPlace, bound_places, is_binding};
 use crate::kept::{Causes, kept_bindings};
-use crate::sets::has;
-use crate::sites::is_binding;
 use mangle_options::MangleOptions;
 use scope_tables::ScopeTables;
+use scope_tables::sets::has;
 use std::alloc::{AllocError, Global};
 use std::collections::{BTreeMap, BTreeSet};
 

@@ -3,7 +3,7 @@
 ghost use Rattle.std.specs.Prelude.{◌≡◌, ◌&&◌, ◌||◌, ℕ, List, IfOk, not};
 ghost use Rattle.std.specs.List.{list_any};
 ghost use Rattle.kept_names.specs.Causes.{AreCauses, keeps_alone};
-ghost use Rattle.kept_names.specs.Sets.{has};
+ghost use Rattle.scope_tables.specs.Sets.{has};
 ghost use Rattle.kept_names.specs.Views.{AllStand, bound_of, bounds_of};
 ghost use Rattle.mangle_options.specs.Settings.{options_in};
 ghost use Rattle.name_rules.specs.Kept as spec;
@@ -14,14 +14,14 @@ ghost use Rattle.scope_rules.specs.Bindings.{Bound, is_node};
 ghost use Rattle.scope_tables.specs.Views.{IsScope, Stands};
 ghost use Rattle.tree_nodes.specs.Tree.{Text};
 
-use crate::bound::BoundPlace;
+use crate::bound::{BoundPlace, is_binding};
 use crate::exported::exported_bindings;
 use crate::name_kept::NamesKept;
 use crate::scope_flags::ScopeFlags;
-use crate::sets::{has, put};
-use crate::sites::{home, is_binding};
 use mangle_options::{MangleOptions, ReservedNames};
 use place_list::PlaceList;
+use scope_tables::sets::{has, put};
+use scope_tables::sites::home;
 use std::alloc::{AllocError, Global};
 use std::collections::BTreeSet;
 

@@ -10,8 +10,6 @@ mod kept;
 mod name_kept;
 mod roles;
 mod scope_flags;
-mod sets;
-mod sites;
 mod symbols;
 mod values;
 

@@ -14,13 +14,12 @@ ghost use Rattle.scope_tables.specs.WholeTree.{AreTables};
 ghost use Rattle.tree_nodes.specs.Tree.{Text};
 
 use crate::assigned::assigned_bindings;
-use crate::bound::{BoundPlace, bound_places};
+use crate::bound::{BoundPlace, bound_places, is_binding};
 use crate::roles::role_kept;
-use crate::sets::has;
-use crate::sites::is_binding;
 use crate::values::{InDeclarator, first_values};
 use mangle_options::MangleOptionsKeepNames;
 use scope_tables::ScopeTables;
+use scope_tables::sets::has;
 use std::alloc::{AllocError, Global};
 use std::collections::{BTreeMap, BTreeSet};
 

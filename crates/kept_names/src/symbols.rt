@@ -13,9 +13,8 @@ ghost use Rattle.scope_rules.specs.Bindings.{Bound, is_binding};
 ghost use Rattle.scope_tables.specs.WholeTree.{AreTables};
 ghost use Rattle.tree_nodes.specs.Tree.{Text};
 
-use crate::bound::{BoundPlace, bound_places};
+use crate::bound::{BoundPlace, bound_places, is_binding};
 use crate::name_kept::NamesKept;
-use crate::sites::is_binding;
 use arena_core::BitSet;
 use mangle_options::MangleOptionsKeepNames;
 use scope_tables::ScopeTables;

@@ -10,8 +10,8 @@ ghost use Rattle.scope_rules.specs.Bindings.{is_node};
 
 use crate::bound::BoundPlace;
 use crate::roles::{has_value, value_kept};
-use crate::sites::declares;
 use mangle_options::MangleOptionsKeepNames;
+use scope_tables::sites::declares;
 use std::alloc::{AllocError, Global};
 use std::collections::BTreeMap;
 

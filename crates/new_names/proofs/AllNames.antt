@@ -5,7 +5,7 @@ use Rattle.std.proofs.lemmas.List.{length-map, map-id}
 use Rattle.std.proofs.lemmas.Simd.{map-map}
 use Rattle.live_slots.specs.Slots.{AreGroupsOf, AreSlots}
 use Rattle.live_slots.specs.declared.slots.Slots.{Slots}
-use Rattle.kept_names.proofs.BoundPlaces.{many_places}
+use Rattle.scope_tables.proofs.BoundPlaces.{many_places}
 use Rattle.name_rules.proofs.ChosenNames.{chosen_names_are_new}
 use Rattle.name_rules.proofs.CountFrom.{count_length}
 use Rattle.name_rules.proofs.GroupsInOrder.{slots_are_fewest}

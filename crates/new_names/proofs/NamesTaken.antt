@@ -7,7 +7,7 @@ use Rattle.std.proofs.lemmas.Bool.{both_ways}
 use Rattle.std.proofs.lemmas.List.{length-take-le, length_push, map-append, take_more}
 use Rattle.std.proofs.lemmas.List.Folds.{list_any-append}
 use Rattle.class_tables.proofs.Distinct.{same_flips}
-use Rattle.kept_names.proofs.BoundPlaces.{take_read}
+use Rattle.scope_tables.proofs.BoundPlaces.{take_read}
 use Rattle.syntax_lex.specs.Keyword.{is_reserved_keyword}
 use Rattle.name_rules.specs.FreeNames.{is_taken, is_unchanged, is_variable}
 use Rattle.name_rules.specs.Groups.{Member}

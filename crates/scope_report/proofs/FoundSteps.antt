@@ -3,7 +3,7 @@ use Rattle.std.specs.Prelude.{◌≡◌, ◌+◌, ℕ, Bool, true, false, List, 
 use Rattle.std.proofs.Common.{sym, ap, ◌∙◌, append_assoc}
 use Rattle.std.proofs.lemmas.List.{append-nil, map-append}
 use Rattle.place_list.specs.Nodes.{NestedNode}
-use Rattle.scope_report.proofs.BoundPlaces.{take_read}
+use Rattle.scope_tables.proofs.BoundPlaces.{take_read}
 use Rattle.scope_report.specs.Found.{Found, found_at, found_from, rules, when}
 use Rattle.scope_report.specs.Rules.{verdict_on}
 use Rattle.scope_report.specs.Views.{Pushes, found_view, found_views}

@@ -2,7 +2,6 @@
 pub mod EitherTest
 -- loops over places
 pub mod BoundPlaces
-pub mod MarkedSets
 -- scopes further out, and what they declare
 pub mod OuterScopes
 -- nodes by number

@@ -4,5 +4,4 @@ pub mod Found
 pub mod Findings
 pub mod Laws
 pub mod Positions
-pub mod Sets
 pub mod Views

@@ -1,21 +1,15 @@
 -- What the code's values stand for.
 use Rattle.std.specs.Prelude.{◌≡◌, List, map, ◌++◌, Bool, ℕ}
 use Rattle.place_list.specs.Nodes.{NestedNode}
-use Rattle.place_list.specs.TableViews.{place_in}
-use Rattle.place_list.specs.declared.tables.PlaceList.{PlaceList}
 use Rattle.scope_report.specs.Exports.{exports}
 use Rattle.scope_report.specs.Found.{Found, found_at, when}
 use Rattle.scope_report.specs.Rules.{uses}
-use Rattle.scope_report.specs.Sets.{HasMarked}
-use Rattle.scope_report.specs.declared.bound.BoundPlace.{BoundPlace}
+use Rattle.scope_tables.specs.Sets.{HasMarked}
 use Rattle.scope_report.specs.declared.finding.Rule.{Rule}
 use Rattle.scope_report.specs.declared.found.FoundAt.{FoundAt}
 use Rattle.scope_report.specs.declared.marks.Marks.{Marks}
 use Rattle.scope_rules.specs.Bindings.{Bound}
 use Rattle.tree_nodes.specs.Tree.{Text}
-
-unfoldable pub bound_of : PlaceList → BoundPlace → Bound Text
-bound_of l b = record { place = place_in l b.place; binding = b.binding }
 
 -- these are the bindings that are used and those that are exported, of places in the tree of these nodes
 pub record AreMarks (ns : List NestedNode) (bs : List (Bound Text)) (m : Marks) : Type 0 where

@@ -2,7 +2,6 @@
 //! and column. Trees with faults are taken too.
 #![tactic(auto)]
 
-mod bound;
 mod error;
 mod exported;
 mod find;
@@ -12,12 +11,11 @@ mod found;
 mod laws;
 mod lines;
 mod marks;
+mod outer;
 mod positions;
 mod reporting;
 mod roles;
-mod sets;
 mod shadow;
-mod sites;
 mod used;
 mod verdict;
 

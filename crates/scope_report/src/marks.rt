@@ -5,19 +5,19 @@ ghost use Rattle.place_list.specs.Nodes.{NestedNode};
 ghost use Rattle.place_list.specs.TableViews.{nested_nodes_in, places_in};
 ghost use Rattle.scope_report.specs.Exports.{is_exported};
 ghost use Rattle.scope_report.specs.Rules.{is_unused};
-ghost use Rattle.scope_report.specs.Views.{AreMarks, bound_of};
+ghost use Rattle.scope_report.specs.Views.{AreMarks};
+ghost use Rattle.scope_tables.specs.Views.{Stands, bound_of};
 ghost use Rattle.scope_rules.specs.Bindings.{Bound, bound, same_name};
-ghost use Rattle.scope_tables.specs.Views.{Stands};
 ghost use Rattle.scope_tables.specs.WholeTree.{AreTables};
 ghost use Rattle.tree_nodes.specs.Tree.{Text};
 
-use crate::bound::BoundPlace;
 use crate::exported::exported_bindings;
-use crate::sets::has;
-use crate::sites::{home, is_binding, is_root};
+use crate::outer::is_root;
 use crate::used::used_bindings;
 use place_list::PlaceList;
-use scope_tables::ScopeTables;
+use scope_tables::sets::has;
+use scope_tables::sites::{home, is_binding};
+use scope_tables::{BoundPlace, ScopeTables};
 use std::alloc::{AllocError, Global};
 use std::collections::BTreeSet;
 

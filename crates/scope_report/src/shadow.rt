@@ -4,14 +4,13 @@ ghost use Rattle.std.specs.Prelude.{◌≡◌};
 ghost use Rattle.std.specs.List.{Contains};
 ghost use Rattle.place_list.specs.TableViews.{place_in, places_in};
 ghost use Rattle.scope_report.specs.Rules as spec;
-ghost use Rattle.scope_report.specs.Views.{bound_of};
-ghost use Rattle.scope_tables.specs.Views.{Stands};
+ghost use Rattle.scope_tables.specs.Views.{Stands, bound_of};
 ghost use Rattle.scope_tables.specs.WholeTree.{AreTables};
 
-use crate::bound::BoundPlace;
-use crate::sites::{home, is_binding, outer_scope};
+use crate::outer::outer_scope;
 use place_list::PlaceEntry;
-use scope_tables::ScopeTables;
+use scope_tables::sites::{home, is_binding};
+use scope_tables::{BoundPlace, ScopeTables};
 
 /// Whether the place is one.
 pub fn is_shadowing(tables: &ScopeTables<'_>, place: &BoundPlace<'_>) -> bool

@@ -4,15 +4,14 @@ ghost use Rattle.std.specs.Prelude.{◌≡◌, ℕ, IfOk};
 ghost use Rattle.place_list.specs.TableViews.{places_in};
 ghost use Rattle.place_list.specs.declared.tables.PlaceList.{PlaceList};
 ghost use Rattle.scope_report.specs.Rules.{uses};
-ghost use Rattle.scope_report.specs.Sets.{HasMarked};
-ghost use Rattle.scope_report.specs.Views.{bound_of};
+ghost use Rattle.scope_tables.specs.Sets.{HasMarked};
+ghost use Rattle.scope_tables.specs.Views.{bound_of};
 ghost use Rattle.scope_rules.specs.Bindings.{bound, is_node, same_name};
 ghost use Rattle.scope_tables.specs.WholeTree.{AreTables};
 
-use crate::bound::{BoundPlace, bound_place};
-use crate::sets::put;
-use crate::sites::refers;
-use scope_tables::ScopeTables;
+use scope_tables::sets::put;
+use scope_tables::sites::refers;
+use scope_tables::{BoundPlace, ScopeTables, bound_place};
 use std::alloc::{AllocError, Global};
 use std::collections::BTreeSet;
 

@@ -5,16 +5,16 @@ ghost use Rattle.place_list.specs.Nodes.{NestedNode};
 ghost use Rattle.place_list.specs.TableViews.{places_in};
 ghost use Rattle.place_list.specs.declared.tables.PlaceList.{PlaceList};
 ghost use Rattle.scope_report.specs.Rules.{is_unresolved, verdict_on};
-ghost use Rattle.scope_report.specs.Views.{AreMarks, bound_of};
+ghost use Rattle.scope_report.specs.Views.{AreMarks};
+ghost use Rattle.scope_tables.specs.Views.{bound_of};
 ghost use Rattle.scope_rules.specs.Bindings.{bound, same_name};
 ghost use Rattle.scope_tables.specs.WholeTree.{AreTables};
 ghost use Rattle.tree_places.specs.Places.{Place};
 
-use crate::bound::{BoundPlace, bound_place};
 use crate::marks::Marks;
 use crate::shadow::is_shadowing;
-use crate::sites::refers;
-use scope_tables::{Faults, ScopeTables};
+use scope_tables::sites::refers;
+use scope_tables::{BoundPlace, Faults, ScopeTables, bound_place};
 
 /// Which rules a place goes against.
 #[derive(Clone, Copy)]
@@ -44,7 +44,7 @@ pub fn verdict_at(tables: &ScopeTables<'_>, marks: &Marks, i: usize) -> Verdict
 }
 
 // Whether it is a reference without binding.
-#[tactic(auto, unfolding(crate::specs::Rules::is_unresolved, crate::specs::Views::bound_of, place_list::specs::Tables::place_of))]
+#[tactic(auto, unfolding(crate::specs::Rules::is_unresolved, scope_tables::specs::Views::bound_of, place_list::specs::Tables::place_of))]
 fn is_unresolved(place: &BoundPlace<'_>) -> bool
     ensures { (l : PlaceList) → result ≡ is_unresolved (bound_of l place.now) }
 {

@@ -10,3 +10,5 @@ pub mod PrivatePlaces
 pub mod EachPlace
 pub mod NodeIndex
 pub mod Resolutions
+pub mod BoundPlaces
+pub mod MarkedSets

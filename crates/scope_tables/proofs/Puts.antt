@@ -33,7 +33,7 @@ put_present f a b v s x n = go (nat_eq a s && nat_eq b x) refl (f s x) refl
 
 -- ---- two pairs of numbers are equal in their order where their numbers are
 
-is_eq_numbers : (a b : ℕ) → is_eq (nat_cmp a b) ≡ nat_eq a b
+pub is_eq_numbers : (a b : ℕ) → is_eq (nat_cmp a b) ≡ nat_eq a b
 is_eq_numbers a b = go (nat_lt a b) refl (nat_eq a b) refl
   where
     go : (l : Bool) → nat_lt a b ≡ l → (e : Bool) → nat_eq a b ≡ e → is_eq (cond l Less (cond e Equal Greater)) ≡ e

@@ -1,5 +1,6 @@
 pub mod Keys
 pub mod Views
+pub mod Sets
 pub mod Firsts
 pub mod DeclarationsAt
 pub mod EarlierPlaces

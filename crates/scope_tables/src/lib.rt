@@ -15,12 +15,14 @@ mod reach_sets;
 mod redeclared;
 mod resolve;
 mod resolved;
-mod roles;
-mod sites;
+pub mod roles;
+pub mod sets;
+pub mod sites;
 mod sloppy;
 mod tables;
 mod undeclared;
 
+pub use bound::{BoundPlace, bound_place};
 pub use declarations::Declarations;
 pub use faults::Faults;
 pub use resolved::Resolved;

@@ -3,11 +3,13 @@
 ghost use Rattle.std.specs.Prelude.{◌≡◌, ◌&&◌};
 ghost use Rattle.place_list.specs.TableViews.{scope_at};
 ghost use Rattle.place_list.specs.declared.tables.PlaceList.{PlaceList};
+ghost use Rattle.scope_rules.specs.Bindings.{is_binding, is_node};
 ghost use Rattle.scope_rules.specs.Homes.{declares, declares_plainly, home, is_joinable, is_single, is_var, lies_in_var_scope, names_function, refers};
 ghost use Rattle.scope_tables.specs.Firsts.{passes};
 ghost use Rattle.scope_tables.specs.Keys.{number_from};
-ghost use Rattle.scope_tables.specs.Views.{Stands, home_number, site_in};
+ghost use Rattle.scope_tables.specs.Views.{Stands, bound_of, home_number, site_in};
 
+use crate::bound::BoundPlace;
 use crate::key::Key;
 use crate::roles::{is_declaring, is_function_name, is_reference, is_var, joins};
 use place_list::{PlaceEntry, PlaceList};
@@ -119,4 +121,23 @@ pub fn key_of(place: &PlaceEntry<'_>) -> Key
     ensures name { result.name ≡ place.now.name_number }
 {
     Key::new(home(place), place.name_number)
+}
+
+/// Whether it is its own binding.
+#[tactic(auto, unfolding(scope_rules::specs::Bindings::is_binding, scope_rules::specs::Bindings::is_node, scope_rules::specs::Bindings::node, crate::specs::Views::bound_of, place_list::specs::Tables::place_of, place_list::specs::Tables::site_of))]
+pub fn is_binding(place: &BoundPlace<'_>) -> bool
+    ensures { (l : PlaceList) → result ≡ is_binding (bound_of l place.now) }
+{
+    declares(&place.place) && is_node(place.binding, place.place.node)
+}
+
+/// Whether it is this number.
+#[tactic(auto, unfolding(scope_rules::specs::Bindings::is_node))]
+pub fn is_node(binding: Option<u32>, node: u32) -> bool
+    ensures { result ≡ is_node binding node }
+{
+    match binding {
+        Some(number) => number == node,
+        None => false,
+    }
 }

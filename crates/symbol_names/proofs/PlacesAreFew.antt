@@ -2,7 +2,7 @@
 use Rattle.std.specs.Prelude.{◌≡◌, ◌≤◌, ◌<◌, ℕ, suc, ◌+◌, ◌^◌, Bool, true, false, List, [], ◌∷◌, ◌++◌, length, if◌then◌else◌}
 use Rattle.std.proofs.Common.{ap, arith}
 use Rattle.std.proofs.lemmas.List.{length-append}
-use Rattle.kept_names.proofs.BoundPlaces.{many_places}
+use Rattle.scope_tables.proofs.BoundPlaces.{many_places}
 use Rattle.new_names.specs.NewNames.{IsListOf}
 use Rattle.place_list.specs.TableViews.{places_in}
 use Rattle.place_list.specs.declared.tables.PlaceList.{PlaceList}

@@ -4,7 +4,7 @@ use Rattle.std.specs.List.{AllByRecursion}
 use Rattle.std.specs.Option.{unwrap_or}
 use Rattle.std.proofs.Common.{refl, sym, ap, ◌∙◌, subst, arith, inl, inr, append_assoc}
 use Rattle.std.proofs.lemmas.List.{append-nil, length-append, map-append}
-use Rattle.kept_names.proofs.BoundPlaces.{take_read}
+use Rattle.scope_tables.proofs.BoundPlaces.{take_read}
 use Rattle.list_laws.proofs.Members.{In}
 use Rattle.list_laws.proofs.Tests.{none_some, tested}
 use Rattle.syntax_lex.specs.Identifier.{is_identifier_name}

@@ -1,6 +1,6 @@
 use Rattle.std.specs.Prelude.{◌≡◌, ◌<◌, Option, IfSome, length, ℕ, List}
 use Rattle.std.proofs.Common.{ap, arith, subst}
-use Rattle.kept_names.proofs.BoundPlaces.{bound_at, many_bindings}
+use Rattle.scope_tables.proofs.BoundPlaces.{bound_at, many_bindings}
 use Rattle.kept_names.specs.Views.{bound_of}
 use Rattle.place_list.specs.TableViews.{places_in}
 use Rattle.scope_rules.specs.Bindings.{same_name, shadower}

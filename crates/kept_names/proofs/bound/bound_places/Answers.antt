@@ -1,7 +1,8 @@
 use Rattle.std.specs.Prelude.{◌∷◌, ◌++◌, ◌≤◌, List, [], length}
 use Rattle.std.proofs.Common.{ap, arith, sym, take_all, ◌∙◌}
 use Rattle.std.proofs.lemmas.List.{map-append}
-use Rattle.kept_names.proofs.BoundPlaces.{all_more, all_none, many_bound, take_read}
+use Rattle.kept_names.proofs.HoldsOfAll.{all_more, all_none}
+use Rattle.scope_tables.proofs.BoundPlaces.{many_bound, take_read}
 use Rattle.kept_names.specs.Views.{IsShadowed, bound_of, bounds_of}
 use Rattle.kept_names.specs.declared.bound.BoundPlace.{BoundPlace}
 use Rattle.place_list.specs.TableViews.{places_in}

@@ -2,7 +2,7 @@ use Rattle.std.specs.Prelude.{Some, is_some, ℕ}
 use Rattle.std.proofs.Common.{ap, sym, ◌∙◌}
 use Rattle.std.proofs.lemmas.Bool.{eqb-true}
 use Rattle.kept_names.proofs.FirstValues.{put_absent, put_present}
-use Rattle.kept_names.proofs.MarkedSets.{set_at}
+use Rattle.scope_tables.proofs.MarkedSets.{set_at}
 use Rattle.kept_names.specs.Puts.{at_node}
 use Rattle.kept_names.proofs.groups.put_first.Goals as goal
 

@@ -1,7 +1,7 @@
 use Rattle.std.specs.Prelude.{◌≡◌, ℕ, List, take}
 use Rattle.std.specs.List.{list_any}
 use Rattle.kept_names.specs.Causes.{AreCauses, keeps_alone}
-use Rattle.kept_names.specs.Sets.{has}
+use Rattle.scope_tables.specs.Sets.{has}
 use Rattle.kept_names.specs.Views.{bound_of}
 use Rattle.name_rules.specs.Options.{Options}
 use Rattle.scope_rules.specs.Bindings.{Bound}

@@ -1,7 +1,7 @@
 use Rattle.std.specs.Prelude.{List, map}
 use Rattle.std.proofs.Common.{ap, arith, take_all, ◌∙◌}
 use Rattle.class_tables.specs.PrivateTables.{list_in}
-use Rattle.kept_names.proofs.BoundPlaces.{many_places}
+use Rattle.scope_tables.proofs.BoundPlaces.{many_places}
 use Rattle.name_rules.specs.ChosenNames.{place_number}
 use Rattle.new_names.proofs.NumbersFound.{one_more}
 use Rattle.place_list.specs.TableViews.{places_in}

@@ -1,7 +1,7 @@
 use Rattle.std.specs.Borrow.{Bor}
 use Rattle.std.specs.Prelude.{List, None, length, map}
 use Rattle.std.proofs.Common.{ap, arith, refl, sym, ◌∙◌}
-use Rattle.kept_names.proofs.BoundPlaces.{many_places}
+use Rattle.scope_tables.proofs.BoundPlaces.{many_places}
 use Rattle.new_names.proofs.NamesTaken.{all_staying, one_changes, one_longer, one_stays}
 use Rattle.place_list.specs.TableViews.{place_in, places_in}
 use Rattle.place_list.specs.Tables.{place_of}

@@ -3,9 +3,8 @@ use Rattle.std.proofs.Common.{ap, sym, ◌∙◌}
 use Rattle.place_list.specs.TableViews.{nested_nodes_in}
 use Rattle.place_list.specs.Tables.{place_of}
 use Rattle.scope_report.specs.Exports.{exports, names_default}
-use Rattle.scope_report.specs.Views.{bound_of}
+use Rattle.scope_tables.specs.Views.{bound_of, site_in}
 use Rattle.scope_rules.specs.Bindings.{is_node}
-use Rattle.scope_tables.specs.Views.{site_in}
 use Rattle.scope_report.proofs.exported.exported_binding.Goals as goal
 
 pub returns-then-not-declares : goal.returns-then-not-declares

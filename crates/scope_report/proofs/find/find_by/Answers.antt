@@ -2,7 +2,7 @@ use Rattle.std.specs.Prelude.{◌≤◌, [], length}
 use Rattle.std.proofs.Common.{ap, arith, take_all, ◌∙◌}
 use Rattle.place_list.specs.TableViews.{nested_nodes_in, place_in, places_in}
 use Rattle.place_list.specs.Tables.{place_of, site_of}
-use Rattle.scope_report.proofs.BoundPlaces.{many_places}
+use Rattle.scope_tables.proofs.BoundPlaces.{many_places}
 use Rattle.scope_report.proofs.FoundSteps.{found_more}
 use Rattle.scope_report.specs.Found.{found, found_from}
 use Rattle.scope_report.specs.Views.{found_views}

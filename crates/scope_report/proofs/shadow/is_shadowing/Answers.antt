@@ -2,7 +2,7 @@ use Rattle.std.specs.Prelude.{Bool, ◌&&◌}
 use Rattle.std.proofs.Common.{ap, sym, ◌∙◌}
 use Rattle.place_list.specs.TableViews.{place_in, places_in}
 use Rattle.scope_report.specs.Rules.{is_declared_outside, is_shadowing}
-use Rattle.scope_report.specs.Views.{bound_of}
+use Rattle.scope_tables.specs.Views.{bound_of}
 use Rattle.scope_report.proofs.shadow.is_shadowing.Goals as goal
 
 pub returns-then-is_binding : goal.returns-then-is_binding

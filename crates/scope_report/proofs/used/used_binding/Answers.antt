@@ -2,7 +2,7 @@ use Rattle.std.specs.Prelude.{Bool, ◌&&◌}
 use Rattle.std.proofs.Common.{ap, sym, ◌∙◌}
 use Rattle.place_list.specs.Tables.{place_of}
 use Rattle.scope_report.specs.Rules.{uses}
-use Rattle.scope_report.specs.Views.{bound_of}
+use Rattle.scope_tables.specs.Views.{bound_of}
 use Rattle.scope_rules.specs.Bindings.{is_node}
 use Rattle.scope_report.proofs.used.used_binding.Goals as goal
 

@@ -3,8 +3,8 @@ use Rattle.std.specs.List.{list_any}
 use Rattle.std.proofs.Common.{ap, arith, take_all, ◌∙◌}
 use Rattle.place_list.specs.TableViews.{places_in}
 use Rattle.scope_report.specs.Rules.{uses}
-use Rattle.scope_report.proofs.BoundPlaces.{many_bound}
-use Rattle.scope_report.proofs.MarkedSets.{marked_more}
+use Rattle.scope_tables.proofs.BoundPlaces.{many_bound}
+use Rattle.scope_tables.proofs.MarkedSets.{marked_more}
 use Rattle.scope_rules.specs.Bindings.{bound, same_name}
 use Rattle.scope_report.proofs.used.used_bindings.Goals as goal
 

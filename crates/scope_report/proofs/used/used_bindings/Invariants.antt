@@ -2,7 +2,7 @@ use Rattle.std.specs.Prelude.{◌≡◌, ℕ, take}
 use Rattle.std.specs.List.{list_any}
 use Rattle.place_list.specs.TableViews.{places_in}
 use Rattle.scope_report.specs.Rules.{uses}
-use Rattle.scope_report.specs.Sets.{has}
+use Rattle.scope_tables.specs.Sets.{has}
 use Rattle.scope_rules.specs.Bindings.{bound, same_name}
 use Rattle.scope_report.proofs.used.used_bindings.Given as goal
 

@@ -3,7 +3,7 @@ use Rattle.std.proofs.Common.{ap, refl, subst, ◌∙◌}
 use Rattle.place_list.specs.TableViews.{places_in}
 use Rattle.scope_report.proofs.BoundPlaces.{bound_of_place}
 use Rattle.scope_report.specs.Rules.{is_shadowing, is_unresolved, is_unused, verdict_on}
-use Rattle.scope_report.specs.Views.{bound_of}
+use Rattle.scope_tables.specs.Views.{bound_of}
 use Rattle.scope_report.specs.declared.verdict.Verdict.{Verdict}
 use Rattle.scope_rules.specs.Bindings.{bound, same_name}
 use Rattle.scope_tables.specs.FaultsOf.{faults_of}

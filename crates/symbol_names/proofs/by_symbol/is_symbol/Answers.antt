@@ -1,7 +1,7 @@
 use Rattle.std.specs.Prelude.{◌≡◌, ◌&&◌, Bool, List, None, Option, false, get_or, length, map, ℕ}
 use Rattle.std.proofs.Common.{ap, arith, sym, ◌∙◌}
 use Rattle.std.proofs.lemmas.Option.{get_or_from_slice_get}
-use Rattle.kept_names.proofs.BoundPlaces.{many_bindings}
+use Rattle.scope_tables.proofs.BoundPlaces.{many_bindings}
 use Rattle.place_list.proofs.PlacesStand.{mapped_at}
 use Rattle.place_list.specs.TableViews.{place_in, places_in}
 use Rattle.place_list.specs.Tables.{place_of, site_of}

@@ -3,7 +3,7 @@ use Rattle.std.specs.List.{AllByRecursion, Contains}
 use Rattle.std.proofs.Common.{Global, String, ap, arith, subst, sym, take_all, ◌∙◌}
 use Rattle.std.proofs.lemmas.List.{length-map}
 use Rattle.std.proofs.lemmas.Option.{get_or_from_slice_get, slice_get_within}
-use Rattle.kept_names.proofs.BoundPlaces.{many_places}
+use Rattle.scope_tables.proofs.BoundPlaces.{many_places}
 use Rattle.place_list.specs.TableViews.{place_in, places_in}
 use Rattle.tree_apply.proofs.GivenInTurn.{one_numbered, one_taken}
 use Rattle.tree_apply.specs.Applied.{HasFewBytes, new_of, numbered, taken}

@@ -2,7 +2,7 @@ use Rattle.std.specs.Prelude.{Bool, not, ◌&&◌}
 use Rattle.std.proofs.Common.{ap, subst, sym, ◌∙◌}
 use Rattle.kept_names.proofs.KeptBindings.{six}
 use Rattle.kept_names.specs.Marks.{exports}
-use Rattle.kept_names.specs.Sets.{has}
+use Rattle.scope_tables.specs.Sets.{has}
 use Rattle.kept_names.specs.Views.{bound_of}
 use Rattle.name_rules.specs.Kept.{holds_with, is_exported, is_kept_alone, is_of_root, is_place_of, is_root}
 use Rattle.place_list.specs.TableViews.{places_in, withs_in}

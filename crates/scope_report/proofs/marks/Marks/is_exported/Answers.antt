@@ -4,10 +4,9 @@ use Rattle.std.proofs.Common.{ap, subst, sym, ◌∙◌}
 use Rattle.name_rules.specs.Kept.{is_root}
 use Rattle.place_list.specs.Tables.{place_of, site_of}
 use Rattle.scope_report.specs.Exports.{exports, is_exported}
-use Rattle.scope_report.specs.Views.{bound_of}
+use Rattle.scope_tables.specs.Views.{IsScope, bound_of}
 use Rattle.scope_rules.specs.Bindings.{node}
 use Rattle.scope_tables.proofs.Numbers.{home_is_known}
-use Rattle.scope_tables.specs.Views.{IsScope}
 use Rattle.scope_report.proofs.marks.Marks.is_exported.Goals as goal
 
 pub is_root-requires-clause-scope : goal.is_root-requires-clause-scope

@@ -3,7 +3,7 @@ use Rattle.std.specs.List.{list_any}
 use Rattle.std.proofs.Common.{ap, ◌∙◌}
 use Rattle.place_list.specs.Tables.{place_of, site_of}
 use Rattle.scope_report.specs.Rules.{is_unused, uses}
-use Rattle.scope_report.specs.Views.{bound_of}
+use Rattle.scope_tables.specs.Views.{bound_of}
 use Rattle.scope_rules.specs.Bindings.{is_binding, node}
 use Rattle.scope_report.proofs.marks.Marks.is_unused.Goals as goal
 

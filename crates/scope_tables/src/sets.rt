@@ -1,7 +1,7 @@
 //! Sets of bindings, by the numbers of their nodes.
 
 ghost use Rattle.std.specs.Prelude.{◌≡◌, OnOk};
-ghost use Rattle.kept_names.specs.Sets.{Puts, has};
+ghost use Rattle.scope_tables.specs.Sets.{Puts, has};
 
 use std::alloc::AllocError;
 use std::collections::BTreeSet;

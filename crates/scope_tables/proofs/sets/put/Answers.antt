@@ -1,9 +1,9 @@
 use Rattle.std.specs.Prelude.{Option, nat_eq, true, ◌||◌, ℕ}
 use Rattle.std.proofs.Common.{ap, sym, ◌∙◌}
-use Rattle.kept_names.proofs.MarkedSets.{put_none, put_number, set_at}
-use Rattle.kept_names.specs.Sets.{has}
+use Rattle.scope_tables.proofs.MarkedSets.{or_false, put_number, set_at}
+use Rattle.scope_tables.specs.Sets.{has}
 use Rattle.scope_rules.specs.Bindings.{is_node}
-use Rattle.kept_names.proofs.sets.put.Goals as goal
+use Rattle.scope_tables.proofs.sets.put.Goals as goal
 
 pub returns-in_ok-insert : goal.returns-in_ok-insert
 unfolding is_node
@@ -18,4 +18,4 @@ pub returns-in_default : goal.returns-in_default
 unfolding is_node
 returns-in_default c = λ n.
     let s = c.args.set.now in
-    put_none (has s n) ∙ ap (λ (o : Option ℕ). has s n || is_node o n) (sym c.in_default.is)
+    or_false (has s n) ∙ ap (λ (o : Option ℕ). has s n || is_node o n) (sym c.in_default.is)

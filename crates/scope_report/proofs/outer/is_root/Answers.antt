@@ -1,6 +1,6 @@
 use Rattle.scope_report.proofs.OuterScopes.{root_told}
 use Rattle.place_list.specs.TableViews.{scope_at}
-use Rattle.scope_report.proofs.sites.is_root.Goals as goal
+use Rattle.scope_report.proofs.outer.is_root.Goals as goal
 
 pub returns : goal.returns
 returns c =

@@ -1,10 +1,10 @@
 use Rattle.std.specs.Prelude.{◌<◌, List, Option, length, ℕ}
 use Rattle.std.proofs.Common.{ap, arith, sym}
 use Rattle.place_list.proofs.PlacesStand.{read_at, stands_for_place}
-use Rattle.scope_report.proofs.BoundPlaces.{bound_at, many_bindings}
-use Rattle.scope_report.specs.Views.{bound_of}
+use Rattle.scope_tables.proofs.BoundPlaces.{bound_at, many_bindings}
+use Rattle.scope_tables.specs.Views.{bound_of}
 use Rattle.scope_tables.proofs.Resolutions.{all_stand}
-use Rattle.scope_report.proofs.bound.bound_place.Goals as goal
+use Rattle.scope_tables.proofs.bound.bound_place.Goals as goal
 
 pub binding_at-requires : goal.binding_at-requires
 binding_at-requires c = let l = c.args.tables.now.list in omega (arith, ap length c.bindings-bindings.ensures, many_bindings l, c.requires.index)

@@ -5,7 +5,7 @@ use Rattle.place_list.specs.TableViews.{lists_in, scope_at}
 use Rattle.scope_report.specs.Rules.{outside}
 use Rattle.scope_tables.proofs.Numbers.{none_outside}
 use Rattle.scope_tables.specs.Views.{IsScope}
-use Rattle.scope_report.proofs.sites.outer_scope.Goals as goal
+use Rattle.scope_report.proofs.outer.outer_scope.Goals as goal
 
 pub returns-in-Some : goal.returns-in-Some
 unfolding outside
