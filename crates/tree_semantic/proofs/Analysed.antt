@@ -12,7 +12,8 @@ use Rattle.scope_rules.specs.Faults.{has_fault}
 use Rattle.scope_tables.specs.declared.tables.ScopeTables.{ScopeTables}
 use Rattle.tree_nodes.specs.Tree.{Parts}
 use Rattle.tree_places.specs.Places.{Place, places, scopes, seen, withs}
-use Rattle.tree_semantic.specs.ClassBodies.{AreClassesOf}
+use Rattle.tree_semantic.specs.ClassBodies.{AreClassesOf, parents_in}
+use Rattle.tree_semantic.specs.ClassesAround.{outer_classes}
 use Rattle.tree_semantic.specs.Nodes.{nodes_in, told}
 use Rattle.tree_semantic.specs.Semantics.{IsSemanticOf}
 use Rattle.tree_semantic.specs.declared.builder.SemanticError.{SemanticError}
@@ -41,9 +42,9 @@ module _ (t : Parts) (whole l : PlaceList) (listed : IsListOf t whole l) (m : Sc
   pub fault_told : (b c : Bool) → b ≡ has_fault same_name (places_in m.list) → b ≡ c → has_fault same_name (places t) ≡ c
   fault_told b c is test = sym (is ∙ ap (has_fault same_name) places_same) ∙ test
 
-  pub analysed : (s : Semantic) → IsScoping s.scoping → tables_of s.scoping ≡ m → AreClassesOf (places_in m.list) (length m.list.class_bodies.items) s.classes
+  pub analysed : (s : Semantic) → parents_in s.classes ≡ outer_classes t → IsScoping s.scoping → tables_of s.scoping ≡ m → AreClassesOf (places_in m.list) (length m.list.class_bodies.items) s.classes
       → nodes_in s.nodes ≡ map told (nested_nodes_in whole) → length (nodes_in s.nodes) ≤ 2 ^ 32 - 1 → IsFalse (has_fault same_name (places t)) → IsSemanticOf t s
-  analysed s scoping kept classes nodes few faultless =
+  analysed s parents scoping kept classes nodes few faultless =
       let list : (tables_of s.scoping).list ≡ l = ap (λ (n : ScopeTables). n.list) kept ∙ same in
       record {
         scoping = scoping;
@@ -56,6 +57,7 @@ module _ (t : Parts) (whole l : PlaceList) (listed : IsListOf t whole l) (m : Sc
         nodes = nodes ∙ ap (map told) listed.nested_nodes;
         classes = subst (λ (n : ℕ). AreClassesOf (places t) n s.classes) (ap (λ (q : PlaceList). length q.class_bodies.items) same ∙ listed.class_bodies)
             (subst (λ (ps : List Place). AreClassesOf ps (length m.list.class_bodies.items) s.classes) places_same classes);
+        class_parents = parents;
         faultless = faultless;
       }
 

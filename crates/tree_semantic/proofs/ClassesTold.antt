@@ -35,67 +35,6 @@ pub rise_same : (n : ℕ) (ms : List ℕ) → laws.RiseFrom n ms → numbers.Ris
 rise_same n [] r = tt
 rise_same n (m ∷ ms) r = (r.0, rise_same (suc m) ms r.1)
 
--- what a list has at a number, or none
-read_or_none : (ps : List (Option ℕ)) (k : ℕ) (o : Option ℕ) → slice_get ps k ≡ Some o → get_or ps k None ≡ o
-read_or_none [] k o e = absurd (cc)
-read_or_none (p ∷ ps) zero o e = some_one p o e
-read_or_none (p ∷ ps) (suc k) o e = read_or_none ps k o e
-
--- ---- the classes around a place
-
-module _ (os : List (Option ℕ)) (before : ComesBefore os) where
-  there : (n : ℕ) → n < length os → (o : Option ℕ) × (slice_get os n ≡ Some o)
-  there n h = go os n h
-    where
-      go : (ps : List (Option ℕ)) (k : ℕ) → k < length ps → (o : Option ℕ) × (slice_get ps k ≡ Some o)
-      go [] k l = absurd (omega (arith, l))
-      go (p ∷ ps) zero l = (p, refl)
-      go (p ∷ ps) (suc k) l = go ps k (omega (arith, l))
-
-  number_is : (o : Option ℕ) → IsBelow (length os) o → own_number (list_at (lineages os) o) ≡ o
-  unfolding own_number list_at
-  number_is None h = refl
-  number_is (Some n) h =
-      let t = there n h in
-      ap own_number (line_outwards os before n t.0 t.1)
-
-  below_less : (n m : ℕ) (o : Option ℕ) → n < m → IsBelow n o → IsBelow m o
-  below_less n m None h b = tt
-  below_less n m (Some k) h b = omega (arith, h, b)
-
-  -- along the line of a class each is the parent of the one before
-  line_leads : (fuel : ℕ) (o : Option ℕ) → IsBelow fuel o → IsBelow (length os) o → LeadOutwards os (list_at (lineages os) o)
-  unfolding list_at
-  line_leads fuel None h b = tt
-  line_leads zero (Some n) h b = absurd (omega (arith, h))
-  line_leads (suc fuel) (Some n) h b =
-      let t = there n b in
-      let out = outer_below os before n t.0 t.1 in
-      let inside = below_less n (length os) t.0 b out in
-      let next = below_or n fuel t.0 (omega (arith, h)) out in
-      subst (λ (line : List ℕ). LeadOutwards os line) (sym (line_outwards os before n t.0 t.1))
-      (read_or_none os n t.0 t.1 ∙ sym (number_is t.0 inside), line_leads fuel t.0 next inside)
-    where
-      below_or : (n m : ℕ) (o : Option ℕ) → n < suc m → IsBelow n o → IsBelow m o
-      below_or n m None h b = tt
-      below_or n m (Some k) h b = omega (arith, h, b)
-
-  pub leads_outwards : (o : Option ℕ) → IsBelow (length os) o → LeadOutwards os (list_at (lineages os) o)
-  leads_outwards o b = line_leads (length os) o b b
-
-places_lead : (l : PlaceList) → IsBounded (list_view l) → (es : List PlaceEntry) → AllByRecursion (λ e. IsBelow (length (class_parents l)) e.setting.class_body) es
-    → AllByRecursion (λ p. LeadOutwards (class_parents l) p.site.setting.classes) (map (place_of (lists_in l)) (map entry_view es))
-unfolding place_of site_of setting_of
-places_lead l bounded [] a = tt
-places_lead l bounded (e ∷ es) a = (leads_outwards (class_parents l) bounded.class_bodies e.setting.class_body a.0, places_lead l bounded es a.1)
-
-classes_below : (l : PlaceList) (bounded : IsBounded (list_view l)) (es : List PlaceEntry) → AllByRecursion (λ e. IsKnown (list_view l) e.setting) (map entry_view es) → AllByRecursion (λ (e : PlaceEntry). IsBelow (length (class_parents l)) e.setting.class_body) es
-classes_below l bounded [] a = tt
-classes_below l bounded (e ∷ es) a = (a.0.class_body, classes_below l bounded es a.1)
-
-pub all_lead : (l : PlaceList) → IsBounded (list_view l) → AllByRecursion (λ p. LeadOutwards (class_parents l) p.site.setting.classes) (places_in l)
-all_lead l bounded = places_lead l bounded l.places.items (classes_below l bounded l.places.items bounded.places)
-
 -- ---- the class of a node
 
 pub by_node : (l : PlaceList) (n : ℕ) → number_at n (nodes_of l.places.items) (map (class_of_place (places_in l)) (places_in l)) ≡ node_class (places_in l) n
@@ -107,17 +46,17 @@ by_node l n =
 
 -- ---- one class after another
 
-pub no_rows : (l : PlaceList) → AreRowsOf l 0 []
-no_rows l = record { many = refl; parents = refl; names = refl; are_open = refl }
+pub no_rows : (l : PlaceList) (parents : List (Option ℕ)) → AreRowsOf l parents 0 []
+no_rows l parents = record { many = refl; parents_are = refl; names = refl; are_open = refl }
 
-pub rows_more : (l : PlaceList) (count : ℕ) (rs : List ClassRow) (r : ClassRow) (more : List ClassRow) → count < length l.class_bodies.items → AreRowsOf l count rs → IsRowOf l count r → more ≡ rs ++ r ∷ [] → AreRowsOf l (count + 1) more
-rows_more l count rs r more h a one pushed =
-    let inside : count < length (class_parents l) = (let many : length (class_parents l) ≡ length l.class_bodies.items = length-map l.class_bodies.items (λ (e : ClassEntry). e.parent) in omega (arith, many, h)) in
-    subst (λ (qs : List ClassRow). AreRowsOf l (count + 1) qs) (sym pushed) (record {
+pub rows_more : (l : PlaceList) (parents : List (Option ℕ)) (count : ℕ) (rs : List ClassRow) (r : ClassRow) (more : List ClassRow) → count < length parents → AreRowsOf l parents count rs → IsRowOf l (get_or parents count None) count r
+    → more ≡ rs ++ r ∷ [] → AreRowsOf l parents (count + 1) more
+rows_more l parents count rs r more inside a one pushed =
+    subst (λ (qs : List ClassRow). AreRowsOf l parents (count + 1) qs) (sym pushed) (record {
       many = length_push rs r ∙ ap (λ (n : ℕ). n + 1) a.many;
-      parents = map_push (λ (q : ClassRow). option_map class_id.number_of q.parent) rs r ∙ ap (λ (os : List (Option ℕ)). os ++ option_map class_id.number_of r.parent ∷ []) a.parents
-          ∙ ap (λ (o : Option ℕ). take count (class_parents l) ++ o ∷ []) (sym (read_or_none (class_parents l) count (option_map class_id.number_of r.parent) (sym one.parent)))
-          ∙ sym (take_more (class_parents l) count None inside);
+      parents_are = map_push (λ (q : ClassRow). option_map class_id.number_of q.parent) rs r ∙ ap (λ (os : List (Option ℕ)). os ++ option_map class_id.number_of r.parent ∷ []) a.parents_are
+          ∙ ap (λ (o : Option ℕ). take count parents ++ o ∷ []) one.parent_is
+          ∙ sym (take_more parents count None inside);
       names = map_push (λ (q : ClassRow). map ident_text q.names.items) rs r ∙ ap (λ (ns : List (List Text)). ns ++ map ident_text r.names.items ∷ []) a.names
           ∙ ap (λ (n : List Text). map (names.private_names (places_in l)) (range_with_len 0 count) ++ n ∷ []) one.names
           ∙ sym (map-range_with_len_more (names.private_names (places_in l)) 0 count count (omega arith));
@@ -126,19 +65,20 @@ rows_more l count rs r more h a one pushed =
           ∙ sym (map-range_with_len_more (evals.is_open (places_in l)) 0 count count (omega arith));
     })
 
-pub classes_are : (l : PlaceList) → IsBounded (list_view l) → (c : Classes) → AreRowsOf l (length l.class_bodies.items) c.rows.items → ((n : ℕ) → get_or c.node_classes.items n None ≡ node_class (places_in l) n)
+pub parents_told_of : (l : PlaceList) (parents : List (Option ℕ)) (c : Classes) → length parents ≡ length l.class_bodies.items → AreRowsOf l parents (length l.class_bodies.items) c.rows.items → parents_in c ≡ parents
+parents_told_of l parents c many a = a.parents_are ∙ take_all (length l.class_bodies.items) parents (omega (arith, many))
+
+pub classes_are : (l : PlaceList) (parents : List (Option ℕ)) (c : Classes) → parents_in c ≡ parents → AllByRecursion (λ p. LeadOutwards parents p.site.setting.classes) (places_in l)
+    → AreRowsOf l parents (length l.class_bodies.items) c.rows.items → ((n : ℕ) → get_or c.node_classes.items n None ≡ node_class (places_in l) n)
     → ((p : Place) → is_some (class_of_place (places_in l) p) ≡ is_some (names.private_binding same_name (places_in l) p)) → AreClassesOf (places_in l) (length l.class_bodies.items) c
-classes_are l bounded c a by bound =
-    let many : length (class_parents l) ≡ length l.class_bodies.items = length-map l.class_bodies.items (λ (e : ClassEntry). e.parent) in
-    let parents : parents_in c ≡ class_parents l = a.parents ∙ take_all (length l.class_bodies.items) (class_parents l) (omega (arith, many)) in
-    record {
-      class_count = a.many;
-      outwards = subst (λ (os : List (Option ℕ)). AllByRecursion (λ (p : Place). LeadOutwards os p.site.setting.classes) (places_in l)) (sym parents) (all_lead l bounded);
-      names = a.names;
-      are_open = a.are_open;
-      by_node = by;
-      bound = bound;
-    }
+classes_are l parents c told lead a by bound = record {
+  class_count = a.many;
+  outwards = subst (λ (os : List (Option ℕ)). AllByRecursion (λ (p : Place). LeadOutwards os p.site.setting.classes) (places_in l)) (sym told) lead;
+  names = a.names;
+  are_open = a.are_open;
+  by_node = by;
+  bound = bound;
+}
 
 -- what is read of a class
 pub row_read : {X Y : Type 0} (f : X → Y) (rs : List X) (i j : ℕ) (r : X) (d : Y) → i < length rs → r ≡ get_or rs i r → i ≡ j → f r ≡ get_or (map f rs) j d

@@ -20,6 +20,7 @@ module _ (s : Semantic) (x : Scoping) (ok : IsScoping x) (same : x ≡ under_nam
     class_bodies = ap (λ (y : Scoping). length (tables_of y).list.class_bodies.items) same ∙ a.class_bodies;
     nodes = a.nodes;
     classes = a.classes;
+    class_parents = a.class_parents;
     faultless = a.faultless;
   }
 

@@ -77,7 +77,10 @@ pub(crate) fn number_or_none(row: &[Option<u32>], n: usize) -> Option<u32>
 }
 
 // By the number of a class body: the one around it. Err is want of memory, or of numbers.
-pub(crate) fn class_parents(alloc: Global, nodes: &AstNodes<'_>) -> Result<Vec<Option<u32>>, AllocError>
+pub(crate) fn class_parents(
+    alloc: Global,
+    nodes: &AstNodes<'_>,
+) -> Result<Vec<Option<u32>>, AllocError>
     requires few { length (nodes_in nodes.now) ≤ 2 ^ 32 - 1 }
     ensures { IfOk result (λ v. v.items ≡ spec.parents_told (nodes_in nodes.now)) }
 {
