@@ -1,5 +1,6 @@
 pub mod NodesTold
 pub mod BodiesFound
+pub mod FoundInTurn
 pub mod ClassesTold
 pub mod Declared
 pub mod Renaming

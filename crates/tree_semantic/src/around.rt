@@ -47,12 +47,12 @@ impl BodiesAround {
     {
         let kind = nodes.kind(id);
         let parent = nodes.parent_id(id);
-        self.put(is_body(kind), parent.index())
+        self.put(is_body(kind), parent.index())?;
+        Ok(())
     }
 }
 
 // Whether nodes of a kind are class bodies.
-#[tactic(auto, unfolding(crate::specs::ClassesAround::is_body))]
 fn is_body(kind: Kind) -> bool
     ensures { result ≡ is_class_body (table.row kind).opens }
 {
