@@ -1,5 +1,6 @@
 -- What is built of a program is its analysis.
-use Rattle.std.specs.Prelude.{◌≡◌, ◌≤◌, ◌-◌, ◌^◌, ℕ, Bool, IsFalse, List, Result, IfErr, length, map}
+use Rattle.std.specs.Prelude.{◌≡◌, ◌≤◌, ◌-◌, ◌^◌, ℕ, Bool, true, IsFalse, List, Result, IfErr, length, map}
+use Rattle.std.specs.List.{AllByRecursion}
 use Rattle.std.specs.Result.{IsErrAnd}
 use Rattle.std.proofs.Common.{ap, subst, sym, ◌∙◌, Vec, Global}
 use Rattle.std.proofs.lemmas.Result.{err_from_is_err_and}
@@ -10,14 +11,20 @@ use Rattle.place_list.specs.declared.tables.PlaceList.{PlaceList}
 use Rattle.scope_rules.specs.Bindings.{same_name}
 use Rattle.scope_rules.specs.Faults.{has_fault}
 use Rattle.scope_tables.specs.declared.tables.ScopeTables.{ScopeTables}
-use Rattle.tree_nodes.specs.Tree.{Parts}
+use Rattle.tree_core.proofs.ReadsBack.{shape_read}
+use Rattle.tree_core.specs.Program.{IsProgram}
+use Rattle.tree_core.specs.Values.{value_of}
+use Rattle.tree_nodes.specs.Standing.{is_placed}
+use Rattle.tree_nodes.specs.Tree.{Parts, Tree, alone}
 use Rattle.tree_places.specs.Places.{Place, places, scopes, seen, withs}
-use Rattle.tree_semantic.specs.ClassBodies.{AreClassesOf, parents_in}
-use Rattle.tree_semantic.specs.ClassesAround.{outer_classes}
-use Rattle.tree_semantic.specs.Nodes.{nodes_in, told}
+use Rattle.tree_semantic.proofs.BodiesFound.{Told, bodies_told, places_lead}
+use Rattle.tree_semantic.specs.ClassBodies.{AreClassesOf, LeadOutwards, parents_in}
+use Rattle.tree_semantic.specs.ClassesAround.{outer_classes, parents_told}
+use Rattle.tree_semantic.specs.Nodes.{NodeTold, nodes_in, told}
 use Rattle.tree_semantic.specs.Semantics.{IsSemanticOf}
 use Rattle.tree_semantic.specs.declared.builder.SemanticError.{SemanticError}
 use Rattle.tree_semantic.specs.declared.builder.SemanticError.TheVariants.{BadScope, Memory}
+use Rattle.tree_semantic.specs.declared.nodes.AstNodes.{AstNodes}
 use Rattle.tree_semantic.specs.declared.semantic.Semantic.{Semantic}
 use Rattle.tree_symbols.specs.Scopings.{IsScoping, tables_of}
 
@@ -60,6 +67,30 @@ module _ (t : Parts) (whole l : PlaceList) (listed : IsListOf t whole l) (m : Sc
         class_parents = parents;
         faultless = faultless;
       }
+
+-- in a program each node stands where it may
+program_placed : (t : Tree) → IsProgram t → is_placed t ≡ true
+program_placed t p = (shape_read (value_of t) t p.0).1
+
+-- of its nodes
+module _ (t : Tree) (program : IsProgram t) (whole l : PlaceList) (listed : IsListOf (alone t) whole l) (m : ScopeTables) (same : m.list ≡ l) (a : AstNodes) (nodes : nodes_in a ≡ map told (nested_nodes_in whole)) where
+  all_nodes : nodes_in a ≡ map told (nested_nodes (alone t))
+  all_nodes = nodes ∙ ap (map told) listed.nested_nodes
+
+  bodies : Told t
+  bodies = bodies_told t (program_placed t program)
+
+  pub parents_same : parents_told (nodes_in a) ≡ outer_classes (alone t)
+  parents_same = ap parents_told all_nodes ∙ bodies.parents
+
+  pub bodies_counted : length (parents_told (nodes_in a)) ≡ length m.list.class_bodies.items
+  bodies_counted =
+      ap (λ (ns : List NodeTold). length (parents_told ns)) all_nodes ∙ bodies.count ∙ sym (ap (λ (q : PlaceList). length q.class_bodies.items) same ∙ listed.class_bodies)
+
+  pub places_outwards : AllByRecursion (λ p. LeadOutwards (parents_told (nodes_in a)) p.site.setting.classes) (places_in m.list)
+  places_outwards =
+      subst (λ (ns : List NodeTold). AllByRecursion (λ (p : Place). LeadOutwards (parents_told ns) p.site.setting.classes) (places_in m.list)) (sym all_nodes)
+      (subst (λ (ps : List Place). AllByRecursion (λ (p : Place). LeadOutwards (parents_told (map told (nested_nodes (alone t)))) p.site.setting.classes) ps) (sym (places_same (alone t) whole l listed m same)) (places_lead t bodies))
 
 apart : Memory ≡ BadScope → ⊥
 apart e = cc

@@ -1,7 +1,7 @@
 //! The classes of a program, by ids, and new names for their private names.
 
 use crate::analysed::{program, semantic};
-use crate::programs::CLASSES;
+use crate::programs::{BARE_CLASSES, CLASSES};
 use oxc_data_structures::inline_string::InlineString;
 use oxc_str::new_const_ident;
 use std::alloc::{AllocError, Global};
@@ -21,6 +21,27 @@ fn class_told(classes: &Classes<'_>, k: usize) -> Option<(Option<usize>, bool)> 
         None => None,
     };
     Some((parent, classes.is_open(id)))
+}
+
+// Classes in whose bodies no name stands.
+#[test]
+fn bare_classes_lie_in_classes(rt: HostRuntime) -> Result<(), Fail> {
+    let program = program(rt.alloc(), BARE_CLASSES)?;
+    let semantic = semantic(rt.alloc(), &program)?;
+    for (k, wanted) in [
+        (0, None),
+        (1, Some(0)),
+        (2, Some(1)),
+        (3, Some(0)),
+        (4, None),
+    ] {
+        assert!(rt;
+            class_told(semantic.classes(), k) == Some((wanted, false)),
+            "{k}"
+        );
+    }
+    assert!(rt; class_told(semantic.classes(), 5).is_none());
+    Ok(())
 }
 
 // The n-th private name of a class.

@@ -1,6 +1,7 @@
+use Rattle.std.proofs.Common.{◌∙◌}
 use Rattle.scope_tables.proofs.NodeIndex.{nodes_rise}
 use Rattle.tree_nodes.specs.Tree.{alone}
-use Rattle.tree_semantic.proofs.Analysed.{analysed, fault_told, list_of}
+use Rattle.tree_semantic.proofs.Analysed.{analysed, bodies_counted, fault_told, list_of, parents_same, places_outwards}
 use Rattle.tree_semantic.proofs.Listed.{still_bounded}
 use Rattle.tree_semantic.proofs.builder.analyse.Goals as goal
 
@@ -20,5 +21,19 @@ pub returns-clause-semantic : goal.returns-clause-semantic
 returns-clause-semantic c =
     let whole = c.in_ok-list.list in
     let listed = list_of (alone c.args.root.now) whole c.new.result c.in_ok-list.ensures.places c.in_ok-list.ensures.scopes c.in_ok-list.ensures.scope_nodes c.in_ok-list.ensures.withs c.in_ok-list.ensures.nested_nodes c.in_ok-list.ensures.class_bodies in
-    analysed (alone c.args.root.now) whole (record whole { node_entries = c.new.result }) listed c.in_ok-tables.tables c.in_ok-tables.ensures.list _ c.in_ok-scoping.ensures.scoping c.in_ok-scoping.ensures.tables c.in_ok-classes.ensures c.in_ok-nodes.ensures.nodes c.in_ok-nodes.ensures.few
+    analysed (alone c.args.root.now) whole (record whole { node_entries = c.new.result }) listed c.in_ok-tables.tables c.in_ok-tables.ensures.list _
+    (c.in_ok-classes.ensures.parents ∙ parents_same c.args.root.now c.requires whole (record whole { node_entries = c.new.result }) listed c.in_ok-tables.tables c.in_ok-tables.ensures.list c.in_ok-nodes.nodes c.in_ok-nodes.ensures.nodes)
+    c.in_ok-scoping.ensures.scoping c.in_ok-scoping.ensures.tables c.in_ok-classes.ensures.classes c.in_ok-nodes.ensures.nodes c.in_ok-nodes.ensures.few
     (fault_told (alone c.args.root.now) whole (record whole { node_entries = c.new.result }) listed c.in_ok-tables.tables c.in_ok-tables.ensures.list c.has_fault.result _ c.has_fault.ensures c.if-has_fault.false)
+
+pub build-2-requires-clause-counted : goal.build-2-requires-clause-counted
+build-2-requires-clause-counted c =
+    let whole = c.in_ok-list.list in
+    let listed = list_of (alone c.args.root.now) whole c.new.result c.in_ok-list.ensures.places c.in_ok-list.ensures.scopes c.in_ok-list.ensures.scope_nodes c.in_ok-list.ensures.withs c.in_ok-list.ensures.nested_nodes c.in_ok-list.ensures.class_bodies in
+    bodies_counted c.args.root.now c.requires whole (record whole { node_entries = c.new.result }) listed c.in_ok-tables.tables c.in_ok-tables.ensures.list c.in_ok-nodes.nodes c.in_ok-nodes.ensures.nodes
+
+pub build-2-requires-clause-outwards : goal.build-2-requires-clause-outwards
+build-2-requires-clause-outwards c =
+    let whole = c.in_ok-list.list in
+    let listed = list_of (alone c.args.root.now) whole c.new.result c.in_ok-list.ensures.places c.in_ok-list.ensures.scopes c.in_ok-list.ensures.scope_nodes c.in_ok-list.ensures.withs c.in_ok-list.ensures.nested_nodes c.in_ok-list.ensures.class_bodies in
+    places_outwards c.args.root.now c.requires whole (record whole { node_entries = c.new.result }) listed c.in_ok-tables.tables c.in_ok-tables.ensures.list c.in_ok-nodes.nodes c.in_ok-nodes.ensures.nodes
