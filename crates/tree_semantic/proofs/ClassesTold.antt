@@ -65,8 +65,8 @@ rows_more l parents count rs r more inside a one pushed =
           ∙ sym (map-range_with_len_more (evals.is_open (places_in l)) 0 count count (omega arith));
     })
 
-pub parents_told_of : (l : PlaceList) (parents : List (Option ℕ)) (c : Classes) → length parents ≡ length l.class_bodies.items → AreRowsOf l parents (length l.class_bodies.items) c.rows.items → parents_in c ≡ parents
-parents_told_of l parents c many a = a.parents_are ∙ take_all (length l.class_bodies.items) parents (omega (arith, many))
+pub rows_in : (l : PlaceList) (parents : List (Option ℕ)) (rs : List ClassRow) → length parents ≡ length l.class_bodies.items → AreRowsOf l parents (length l.class_bodies.items) rs → map (λ r. option_map class_id.number_of r.parent) rs ≡ parents
+rows_in l parents rs many a = a.parents_are ∙ take_all (length l.class_bodies.items) parents (omega (arith, many))
 
 pub classes_are : (l : PlaceList) (parents : List (Option ℕ)) (c : Classes) → parents_in c ≡ parents → AllByRecursion (λ p. LeadOutwards parents p.site.setting.classes) (places_in l)
     → AreRowsOf l parents (length l.class_bodies.items) c.rows.items → ((n : ℕ) → get_or c.node_classes.items n None ≡ node_class (places_in l) n)

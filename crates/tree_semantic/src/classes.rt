@@ -137,7 +137,7 @@ fn class_rows<'t>(
 {
     let mut rows = Vec::new(alloc);
     for c in 0..parents.len() {
-        rows.push(class_row(alloc, table, c, parents[c])?)?;
+        rows.push(class_row(alloc, table, c, number_or_none(parents, c))?)?;
     }
     Ok(rows)
 }

@@ -26,14 +26,14 @@ returns-clause-semantic c =
     c.in_ok-scoping.ensures.scoping c.in_ok-scoping.ensures.tables c.in_ok-classes.ensures.classes c.in_ok-nodes.ensures.nodes c.in_ok-nodes.ensures.few
     (fault_told (alone c.args.root.now) whole (record whole { node_entries = c.new.result }) listed c.in_ok-tables.tables c.in_ok-tables.ensures.list c.has_fault.result _ c.has_fault.ensures c.if-has_fault.false)
 
-pub build-2-requires-clause-counted : goal.build-2-requires-clause-counted
-build-2-requires-clause-counted c =
+pub build-requires-2-clause-counted : goal.build-requires-2-clause-counted
+build-requires-2-clause-counted c =
     let whole = c.in_ok-list.list in
     let listed = list_of (alone c.args.root.now) whole c.new.result c.in_ok-list.ensures.places c.in_ok-list.ensures.scopes c.in_ok-list.ensures.scope_nodes c.in_ok-list.ensures.withs c.in_ok-list.ensures.nested_nodes c.in_ok-list.ensures.class_bodies in
     bodies_counted c.args.root.now c.requires whole (record whole { node_entries = c.new.result }) listed c.in_ok-tables.tables c.in_ok-tables.ensures.list c.in_ok-nodes.nodes c.in_ok-nodes.ensures.nodes
 
-pub build-2-requires-clause-outwards : goal.build-2-requires-clause-outwards
-build-2-requires-clause-outwards c =
+pub build-requires-2-clause-outwards : goal.build-requires-2-clause-outwards
+build-requires-2-clause-outwards c =
     let whole = c.in_ok-list.list in
     let listed = list_of (alone c.args.root.now) whole c.new.result c.in_ok-list.ensures.places c.in_ok-list.ensures.scopes c.in_ok-list.ensures.scope_nodes c.in_ok-list.ensures.withs c.in_ok-list.ensures.nested_nodes c.in_ok-list.ensures.class_bodies in
     places_outwards c.args.root.now c.requires whole (record whole { node_entries = c.new.result }) listed c.in_ok-tables.tables c.in_ok-tables.ensures.list c.in_ok-nodes.nodes c.in_ok-nodes.ensures.nodes

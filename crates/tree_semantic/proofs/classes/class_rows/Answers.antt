@@ -1,7 +1,5 @@
-use Rattle.std.specs.Prelude.{◌≡◌, ◌<◌, ◌≤◌, None, Option, ℕ, List, get_or, length}
+use Rattle.std.specs.Prelude.{◌≡◌, ◌<◌, ◌≤◌, Option, ℕ, List, length}
 use Rattle.std.proofs.Common.{arith, subst, sym}
-use Rattle.std.proofs.lemmas.Option.{get_or_from_slice_get}
-use Rattle.place_list.proofs.PlacesStand.{read_at}
 use Rattle.place_list.specs.declared.tables.PlaceList.{PlaceList}
 use Rattle.tree_semantic.specs.ClassBodies.{AreRowsOf, IsRowOf}
 use Rattle.tree_semantic.specs.declared.classes.ClassRow.{ClassRow}
@@ -19,9 +17,9 @@ loop-c-init c = subst (λ (rs : List ClassRow). AreRowsOf c.args.list.now c.args
 pub loop-c-preserved : goal.loop-c-preserved
 loop-c-preserved c =
     let inside : c.loop-c.c < length c.args.parents.now = omega arith in
-    let read : c.index.result ≡ get_or c.args.parents.now c.loop-c.c None = sym (get_or_from_slice_get c.args.parents.now c.loop-c.c c.index.result None (read_at c.args.parents.now c.loop-c.c c.index.result inside c.index.ensures)) in
-    let row = subst (λ (l : PlaceList). IsRowOf l c.index.result c.loop-c.c c.in_ok-class_row.field-0) c.requires.list c.in_ok-class_row.ensures in
-    rows_more c.args.list.now c.args.parents.now c.loop-c.c c.loop-c.rows.items _ c.push.new.self.items inside c.loop-c.invariant (subst (λ (o : Option ℕ). IsRowOf c.args.list.now o c.loop-c.c c.in_ok-class_row.field-0) read row) c.in_ok-push.ensures.items
+    let row = subst (λ (l : PlaceList). IsRowOf l c.number_or_none.result c.loop-c.c c.in_ok-class_row.field-0) c.requires.list c.in_ok-class_row.ensures in
+    rows_more c.args.list.now c.args.parents.now c.loop-c.c c.loop-c.rows.items c.in_ok-class_row.field-0 c.push.new.self.items inside c.loop-c.invariant
+    (subst (λ (o : Option ℕ). IsRowOf c.args.list.now o c.loop-c.c c.in_ok-class_row.field-0) c.number_or_none.ensures row) c.in_ok-push.ensures.items
 
 pub returns : goal.returns
 returns c =
