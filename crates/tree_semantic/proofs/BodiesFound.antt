@@ -1,9 +1,9 @@
 -- What a pass over the nodes of a tree finds of the class bodies is what the walk of the tree says: in a tree whose nodes stand where they may, all that lies in a class body lies inside it.
-use Rattle.std.specs.Prelude.{◌≡◌, ◌⊎◌, ◌<◌, ℕ, zero, suc, Bool, true, false, not, ◌&&◌, ◌||◌, cond, List, [], ◌∷◌, ◌++◌, filter, length, map, get_or, slice_get, Option, Some, None, if◌then◌else◌}
-use Rattle.std.specs.List.{AllByRecursion, list_all}
+use Rattle.std.specs.Prelude.{◌≡◌, ◌⊎◌, ℕ, zero, suc, Bool, true, false, not, ◌&&◌, ◌||◌, cond, List, [], ◌∷◌, ◌++◌, filter, length, map, get_or, slice_get, Option, Some, None, if◌then◌else◌}
+use Rattle.std.specs.List.{list_all}
 use Rattle.std.proofs.Common.{refl, sym, ap, ◌∙◌, subst, add-one, arith, inl, inr}
 use Rattle.std.proofs.lemmas.Bool.{and_parts, both_ways}
-use Rattle.std.proofs.lemmas.List.{append-nil, append_assoc, length_push, map_push, map-append}
+use Rattle.std.proofs.lemmas.List.{append-nil, append_assoc, length_push, map-append}
 use Rattle.std.proofs.lemmas.List.Elements.{filter-append}
 use Rattle.std.proofs.lemmas.Option.{get_or_from_slice_get}
 use Rattle.std.proofs.lemmas.Simd.{map-map}
@@ -21,7 +21,6 @@ use Rattle.tree_nodes.specs.Table.{Column, Row, row, unlisted}
 use Rattle.tree_nodes.specs.Tree.{Parts, Text, Tree, alone, atom, child, done, many}
 use Rattle.tree_nodes.specs.declared.kind.Kind.{Kind}
 use Rattle.tree_nodes.specs.declared.table.Class.{Class as FieldClass}
-use Rattle.tree_nodes.specs.declared.table.Class.TheVariants.{Flag}
 use Rattle.tree_nodes.specs.declared.table.Mark.{Mark}
 use Rattle.tree_nodes.specs.declared.table.Mark.TheVariants.{Usual}
 use Rattle.tree_nodes.specs.declared.table.Opens.{Opens}
@@ -30,11 +29,11 @@ use Rattle.tree_nodes.specs.declared.table.Role.{Role}
 use Rattle.tree_nodes.specs.declared.table.Role.TheVariants.{Plain}
 use Rattle.tree_places.specs.Enclosing.{is_class_body}
 use Rattle.place_list.specs.Open.{all_open}
-use Rattle.tree_places.specs.Places.{Around, Seen, Setting, Site, at_field, before_all, enter, field_setting, hide, met, named_by, names, nothing_yet, opened, places, seen, side, sites, strict_in, walk, with_mark}
+use Rattle.tree_places.specs.Places.{Around, Seen, Setting, Site, at_field, before_all, enter, hide, met, named_by, names, nothing_yet, opened, places, seen, side, sites, strict_in, walk, with_mark}
 use Rattle.tree_places.specs.Scopes.{Scope}
 use Rattle.tree_semantic.specs.ClassBodies.{LeadOutwards}
 use Rattle.tree_semantic.specs.ClassesAround.{Found, body_is_at, class_around, found_after, is_body, nothing_found, outer_classes, parents_told, with_node, with_told}
-use Rattle.tree_semantic.specs.Nodes.{NodeTold, told}
+use Rattle.tree_semantic.specs.Nodes.{told}
 
 -- ---- along the class bodies outwards
 

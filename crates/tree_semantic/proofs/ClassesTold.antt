@@ -5,22 +5,16 @@ use Rattle.std.proofs.Common.{refl, sym, ap, ◌∙◌, subst, arith, add-one}
 use Rattle.std.proofs.lemmas.List.{get_or-map, length-map, length_push, map_push, take_all, take_more}
 use Rattle.std.proofs.lemmas.List.FromFn.{map-range_with_len_more}
 use Rattle.std.proofs.lemmas.Simd.{map-map}
-use Rattle.list_laws.proofs.Members.{In}
-use Rattle.list_laws.proofs.Tests.{some_one}
 use Rattle.number_tables.specs.PlacedNumbers as numbers
 use Rattle.number_tables.specs.PlacedNumbers.{number_at}
-use Rattle.place_list.proofs.OutwardWalks.{line_outwards, outer_below}
 use Rattle.place_list.proofs.PlacesStand.{stands_for_place}
-use Rattle.place_list.specs.Bounds.{ComesBefore, IsBelow, IsBounded, IsKnown}
-use Rattle.place_list.specs.TableViews.{class_parents, classes_at, entry_view, list_view, lists_in, place_in, places_in}
-use Rattle.place_list.specs.Tables.{lineages, list_at, place_of, setting_of, site_of}
-use Rattle.place_list.specs.declared.tables.ClassEntry.{ClassEntry}
+use Rattle.place_list.specs.TableViews.{classes_at, entry_view, lists_in, place_in, places_in}
+use Rattle.place_list.specs.Tables.{place_of, setting_of, site_of}
 use Rattle.place_list.specs.declared.tables.PlaceEntry.{PlaceEntry}
 use Rattle.place_list.specs.declared.tables.PlaceList.{PlaceList}
 use Rattle.scope_rules.specs.Bindings.{node, same_name}
 use Rattle.scope_rules.specs.Evals as evals
 use Rattle.scope_rules.specs.PrivateNames as names
-use Rattle.scope_rules.specs.Symbols.{own_number}
 use Rattle.oxc_str.specs.Ident.{ident_text}
 use Rattle.syntax_sem.specs.ClassId as class_id
 use Rattle.tree_nodes.specs.Tree.{Text}

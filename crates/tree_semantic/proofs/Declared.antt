@@ -1,6 +1,5 @@
 -- A private name has a class exactly where it has a binding, and in a tree without faults each has one.
 use Rattle.std.specs.Prelude.{◌≡◌, ℕ, Bool, true, false, not, ◌&&◌, ◌||◌, List, Option, Some, None, find, is_some, nat_eq, option_map, if◌then◌else◌}
-use Rattle.std.specs.List.{list_any}
 use Rattle.std.proofs.Common.{refl, sym, ap, ◌∙◌}
 use Rattle.std.proofs.lemmas.Bool.{both_ways, or_left, or_right}
 use Rattle.list_laws.proofs.AnyOf.{any_from}

@@ -5,7 +5,6 @@ use Rattle.std.proofs.lemmas.List.{length-map}
 use Rattle.std.proofs.lemmas.Simd.{map-map}
 use Rattle.place_list.proofs.OutwardWalks.{line_form}
 use Rattle.place_list.proofs.PlacesStand.{mapped_at, read_at}
-use Rattle.place_list.specs.Nodes.{NestedNode}
 use Rattle.place_list.specs.TableViews.{lists_in, nested_node_in, nested_nodes_in, node_view, scope_at, scope_parents}
 use Rattle.place_list.specs.Tables.{list_at, nested_node_of}
 use Rattle.place_list.specs.declared.tables.NodeEntry.{NodeEntry}

@@ -1,12 +1,9 @@
 -- A new name more in the last class.
-use Rattle.std.specs.Prelude.{◌≡◌, ◌+◌, ◌<◌, ◌++◌, ◌∷◌, [], ◌&&◌, ℕ, zero, suc, Bool, true, false, nat_eq, List, length, map, get_or, Option, Some, None, bytes_eq, cond, Result, Ok, Err, OnErr, if◌then◌else◌}
-use Rattle.std.specs.BTreeMap.{BTreeMap, get_by}
-use Rattle.std.specs.Borrow.{Bor}
-use Rattle.std.specs.Map.{update}
-use Rattle.std.proofs.Common.{refl, sym, ap, ◌∙◌, subst, arith, set}
+use Rattle.std.specs.Prelude.{◌≡◌, ◌<◌, ◌++◌, ◌∷◌, [], ◌&&◌, ℕ, zero, suc, Bool, true, false, nat_eq, List, length, map, get_or, Option, Some, None, cond, Result, Ok, Err, OnErr, if◌then◌else◌}
+use Rattle.std.proofs.Common.{refl, sym, ap, ◌∙◌, arith, set}
 use Rattle.std.proofs.lemmas.Bool.{eqb-false, eqb-true}
 use Rattle.std.proofs.lemmas.Grind.{get_or-set_at}
-use Rattle.std.proofs.lemmas.List.{get_or-map, get_or-set_other, length-map, map-set, set-get_or}
+use Rattle.std.proofs.lemmas.List.{get_or-map, get_or-set_other, length-map, map-set}
 
 -- lists of which one item is another now, item by item
 module _ {X Y : Type 0} (f : X → Option Y) (xs : List X) (i : ℕ) (x : X) (inside : i < length xs) where

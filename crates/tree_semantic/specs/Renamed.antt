@@ -1,5 +1,5 @@
 -- New private names, class by class, as data.
-use Rattle.std.specs.Prelude.{ℕ, List, map, length, get_or, Option, Some, None}
+use Rattle.std.specs.Prelude.{ℕ, map, length, get_or, Option, None}
 use Rattle.std.specs.BTreeMap.{BTreeMap, get_by}
 use Rattle.std.specs.Borrow.{Bor}
 use Rattle.std.specs.Cmp.Lexicographic.{slice_cmp}

@@ -1,4 +1,3 @@
-use Rattle.std.specs.Prelude.{Bool}
 use Rattle.std.proofs.Common.{ap, sym, ◌∙◌}
 use Rattle.tree_nodes.specs.Table.{Row}
 use Rattle.tree_nodes.specs.declared.table.Opens.{Opens}

@@ -1,4 +1,4 @@
-use Rattle.std.specs.Prelude.{◌≡◌, List, None, Option, get_or, is_some, option_map, ℕ}
+use Rattle.std.specs.Prelude.{List, None, Option, get_or, is_some, ℕ}
 use Rattle.std.proofs.Common.{ap, sym, ◌∙◌}
 use Rattle.syntax_sem.specs.ClassId.{number_of}
 use Rattle.syntax_sem.specs.declared.class.ClassId.{ClassId}

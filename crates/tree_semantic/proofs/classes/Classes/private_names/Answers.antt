@@ -1,9 +1,9 @@
-use Rattle.std.specs.Prelude.{◌≡◌, ◌<◌, [], ℕ, Bool, List, None, Option, false, length, map, option_map}
-use Rattle.std.proofs.Common.{ap, arith, sym, ◌∙◌}
+use Rattle.std.specs.Prelude.{◌≡◌, ◌<◌, [], length, map, option_map}
+use Rattle.std.proofs.Common.{ap, arith, ◌∙◌}
 use Rattle.std.proofs.lemmas.List.{length-map}
 use Rattle.oxc_str.specs.Ident.{ident_text}
 use Rattle.syntax_sem.specs.ClassId.{number_of}
-use Rattle.tree_semantic.specs.ClassBodies.{names_in, open_in, parents_in}
+use Rattle.tree_semantic.specs.ClassBodies.{parents_in}
 use Rattle.tree_semantic.specs.declared.classes.ClassRow.{ClassRow}
 use Rattle.tree_semantic.proofs.ClassesTold.{row_read}
 use Rattle.tree_semantic.proofs.classes.Classes.private_names.Goals as goal

@@ -1,9 +1,8 @@
-use Rattle.std.specs.Prelude.{◌≡◌, ◌≤◌, List, length, map}
+use Rattle.std.specs.Prelude.{◌≡◌, length, map}
 use Rattle.std.proofs.Common.{ap, arith, ◌∙◌}
 use Rattle.place_list.specs.TableViews.{nested_node_in}
 use Rattle.place_list.specs.declared.tables.NodeEntry.{NodeEntry}
 use Rattle.tree_semantic.specs.Nodes.{node_told, told}
-use Rattle.tree_symbols.proofs.Beside.{same_count}
 use Rattle.tree_semantic.proofs.NodesTold.{all_told}
 use Rattle.std.proofs.lemmas.List.{length-map}
 use Rattle.tree_semantic.proofs.nodes.AstNodes.build.Goals as goal

@@ -1,9 +1,8 @@
-use Rattle.std.specs.Prelude.{◌≡◌, ◌<◌, ℕ, length}
-use Rattle.std.proofs.Common.{ap, arith, refl}
+use Rattle.std.specs.Prelude.{◌≡◌, length}
+use Rattle.std.proofs.Common.{arith, refl}
 use Rattle.std.proofs.lemmas.List.{length-map}
 use Rattle.syntax_sem.specs.NodeId.{number_of}
 use Rattle.syntax_sem.specs.ScopeId as scope_id
-use Rattle.tree_nodes.specs.Tree.{Tree}
 use Rattle.tree_semantic.specs.Nodes.{NodeTold, node_told, nodes_in}
 use Rattle.tree_semantic.proofs.NodesTold.{node_read}
 use Rattle.tree_semantic.proofs.nodes.AstNodes.scope_id.Goals as goal

@@ -1,4 +1,4 @@
-use Rattle.std.specs.Prelude.{◌<◌, ℕ, None, length}
+use Rattle.std.specs.Prelude.{◌<◌, None, length}
 use Rattle.std.proofs.Common.{arith, ◌∙◌}
 use Rattle.syntax_sem.specs.ClassId.{number_of}
 use Rattle.tree_semantic.specs.Renamed.{name_in}

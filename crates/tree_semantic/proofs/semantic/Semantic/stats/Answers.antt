@@ -1,4 +1,4 @@
-use Rattle.std.specs.Prelude.{List, length, ℕ}
+use Rattle.std.specs.Prelude.{List, length}
 use Rattle.std.proofs.Common.{ap, ◌∙◌}
 use Rattle.std.proofs.lemmas.List.{length-map}
 use Rattle.place_list.specs.Nodes.{nested_nodes}
