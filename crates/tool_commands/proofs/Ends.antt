@@ -133,7 +133,7 @@ reportable_refused input BadSpan v cause =
     let same : sourced cause.source cause.tree ≡ sourced v.source v.tree =
     some_one (sourced cause.source cause.tree) (sourced v.source v.tree) (sym cause.read.is_sourced ∙ ap sourced_in (same_value input cause.read.value v.read.value cause.read.parses v.read.parses) ∙ v.read.is_sourced) in
     let bad : HasBadSpan v.source (found_in v.tree) = subst (λ (s : Sourced). HasBadSpan s.source (found_in s.tree)) same cause.bad in
-    absurd ((bad.2).1 (v.spans bad.0 (bad.2).0))
+    absurd (bad.2 (v.spans bad.0 bad.1))
 
 work_caused : (w : ToolWork) (input : List ℕ) (r : Refusal) → CanAnswer w input → IsToolCause w r input → refused_status r ≡ Base status.Memory
 work_caused (Map o) input (Input e) v cause = ap Base (valid_refused (length (reserved_in o)) input e v cause)

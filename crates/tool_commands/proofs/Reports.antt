@@ -4,7 +4,7 @@ use Rattle.std.specs.Prelude.{flat_map}
 use Rattle.std.proofs.lemmas.Bool.{or_parts}
 use Rattle.std.proofs.lemmas.Bool.Decides.{nat_tests}
 use Rattle.std.proofs.lemmas.Grind.{flat_map-append}
-use Rattle.std.proofs.lemmas.List.{append_nil, take_more}
+use Rattle.std.proofs.lemmas.List.{append-nil, take_more}
 use Rattle.std.proofs.lemmas.Option.{get_or_from_slice_get, slice_get_within}
 use Rattle.scope_report.specs.declared.finding.Finding.{Finding}
 use Rattle.serde_json.specs.Data.{Data, null, boolean, number, string, array, object}
@@ -46,7 +46,7 @@ line_more fs i f e old new so_far put =
     put ∙ ap (λ (t : List ℕ). t ++ finding_line f) so_far
     ∙ sym (ap report_text (take_more fs i f (slice_get_within fs i f there) ∙ ap (λ (g : Finding). take i fs ++ g ∷ []) (get_or_from_slice_get fs i f f there))
     ∙ flat_map-append finding_line (take i fs) (f ∷ [])
-    ∙ ap (λ (t : List ℕ). report_text (take i fs) ++ t) (append_nil (finding_line f)))
+    ∙ ap (λ (t : List ℕ). report_text (take i fs) ++ t) (append-nil (finding_line f)))
 
 pub none_left : (fs : List Finding) (i : ℕ) → None ≡ slice_get fs i → length fs ≤ i
 none_left [] i e = omega arith
