@@ -10,18 +10,21 @@ use Rattle.mangle_tool.specs.declared.estree.error.MangleError.{MangleError}
 use Rattle.mangle_tool.specs.declared.estree.error.MangleError.TheVariants as error
 use Rattle.mangle_tool.specs.declared.status.Status.TheVariants as status
 use Rattle.name_map.specs.Fits.{Fits}
+use Rattle.scope_report.specs.Findings.{HasBadSpan, StartInText}
+use Rattle.scope_report.specs.Found.{found_in}
 use Rattle.serde_json.specs.Data.{Data}
 use Rattle.tool_commands.proofs.Commands.{CanAnswer}
 use Rattle.tool_commands.specs.Command.{IsToolCause}
 use Rattle.tool_commands.specs.Mapped.{Mapped, mapped, mapped_in}
+use Rattle.tool_commands.specs.Report.{IsReportable, IsReportCause, Sourced, sourced, sourced_in}
 use Rattle.tool_commands.specs.Restore.{IsRestorable, IsRestoreCause}
 use Rattle.tool_commands.specs.Status.{ended, refused_status}
 use Rattle.tool_commands.specs.declared.command.ToolWork.{ToolWork}
-use Rattle.tool_commands.specs.declared.command.ToolWork.TheVariants.{Map, Restore}
+use Rattle.tool_commands.specs.declared.command.ToolWork.TheVariants.{Map, Report, Restore}
 use Rattle.tool_commands.specs.declared.refusal.Refusal.{Refusal}
-use Rattle.tool_commands.specs.declared.refusal.Refusal.TheVariants.{BadMap, Input}
+use Rattle.tool_commands.specs.declared.refusal.Refusal.TheVariants.{BadMap, BadSpan, Input}
 use Rattle.tool_commands.specs.declared.tool_status.ToolStatus.{ToolStatus}
-use Rattle.tool_commands.specs.declared.tool_status.ToolStatus.TheVariants.{Base, BadMap as Misfit}
+use Rattle.tool_commands.specs.declared.tool_status.ToolStatus.TheVariants.{Base, BadMap as Misfit, BadSpan as Misplaced}
 use Rattle.tool_outside.specs.Outside.{EndsUnlessRefused}
 use Rattle.tool_outside.specs.declared.read_all.ReadAllError.TheVariants as read
 use Rattle.tool_outside.specs.declared.work.Outcome.{Outcome}
@@ -42,6 +45,7 @@ from_status (Base status.ReadFault) = Unread read.Failed
 from_status (Base status.WriteFault) = Unwritten
 from_status (Base status.Memory) = Refused (Input error.Memory)
 from_status Misfit = Refused BadMap
+from_status Misplaced = Refused BadSpan
 
 told_back : (o : Outcome Refusal) → ended o ≢ Base status.Memory → from_status (ended o) ≡ o
 unfolding from_status
@@ -55,6 +59,7 @@ told_back (Refused (Input error.BadTree)) n = refl
 told_back (Refused (Input error.BadScope)) n = refl
 told_back (Refused (Input error.Memory)) n = absurd (n refl)
 told_back (Refused BadMap) n = refl
+told_back (Refused BadSpan) n = refl
 told_back Unwritten n = refl
 
 ended_by : (o : Outcome Refusal) (s : ToolStatus) → ended o ≡ s → s ≢ Base status.Memory → o ≡ from_status s
@@ -91,6 +96,7 @@ refusal_back (Input error.BadTree) = refl
 refusal_back (Input error.BadScope) = refl
 refusal_back (Input error.Memory) = refl
 refusal_back BadMap = refl
+refusal_back BadSpan = refl
 
 pub ended_refused : (o : Outcome Refusal) (r : Refusal) → ended o ≡ refused_status r → ended o ≢ Base status.Memory → o ≡ Refused r
 ended_refused o r h n = ended_by o (refused_status r) h (λ m. n (h ∙ m)) ∙ refusal_back r
@@ -112,11 +118,29 @@ restorable_refused input BadMap v cause =
     let same : mapped cause.tree cause.undoing ≡ mapped v.tree v.undoing =
     some_one (mapped cause.tree cause.undoing) (mapped v.tree v.undoing) (sym cause.read.is_mapped ∙ ap mapped_in (same_value input cause.read.value v.read.value cause.read.parses v.read.parses) ∙ v.read.is_mapped) in
     absurd (cause.misfit (subst (λ (m : Mapped). Fits m.tree m.undoing) (sym same) v.fits))
+restorable_refused input BadSpan v cause = absurd cause
+
+reportable_refused : (input : List ℕ) (r : Refusal) → IsReportable input → IsReportCause r input → refused_status r ≡ Base status.Memory
+reportable_refused input (Input error.NotJson) v cause = absurd (none_some v.read.value (sym (cause v.read.parses.0) ∙ v.read.parses.1))
+reportable_refused input (Input error.TooLarge) v cause =
+    absurd (true≢false (sym cause.cause ∙ ap (λ (d : Data). is_too_large d 0) (same_value input cause.value v.read.value cause.parses v.read.parses) ∙ v.read.within))
+reportable_refused input (Input error.BadTree) v cause =
+    absurd (none_some (sourced v.source v.tree) (sym cause.cause.none ∙ ap sourced_in (same_value input cause.value v.read.value cause.parses v.read.parses) ∙ v.read.is_sourced))
+reportable_refused input (Input error.BadScope) v cause = absurd cause
+reportable_refused input (Input error.Memory) v cause = refl
+reportable_refused input BadMap v cause = absurd cause
+reportable_refused input BadSpan v cause =
+    let same : sourced cause.source cause.tree ≡ sourced v.source v.tree =
+    some_one (sourced cause.source cause.tree) (sourced v.source v.tree) (sym cause.read.is_sourced ∙ ap sourced_in (same_value input cause.read.value v.read.value cause.read.parses v.read.parses) ∙ v.read.is_sourced) in
+    let bad : HasBadSpan v.source (found_in v.tree) = subst (λ (s : Sourced). HasBadSpan s.source (found_in s.tree)) same cause.bad in
+    absurd (bad.2 (v.spans bad.0 bad.1))
 
 work_caused : (w : ToolWork) (input : List ℕ) (r : Refusal) → CanAnswer w input → IsToolCause w r input → refused_status r ≡ Base status.Memory
 work_caused (Map o) input (Input e) v cause = ap Base (valid_refused (length (reserved_in o)) input e v cause)
 work_caused (Map o) input BadMap v cause = absurd cause
+work_caused (Map o) input BadSpan v cause = absurd cause
 work_caused Restore input r v cause = restorable_refused input r v cause
+work_caused Report input r v cause = reportable_refused input r v cause
 
 pub work_ends : (w : ToolWork) (input : List ℕ) (o : Outcome Refusal) → CanAnswer w input → EndsUnlessRefused (λ r. IsToolCause w r input) o
     → (ended o ≡ Base status.Done) ⊎ (ended o ≡ Base status.Memory)

@@ -1,5 +1,5 @@
 -- A program beside a map: as a text, as a JSON value, and in a value that was read.
-use Rattle.std.specs.Prelude.{ℕ, ◌&&◌, Bool, false, List, ◌++◌, codes, nat_eq, Option, Some, None, option_and_then, option_map, if◌then◌else◌}
+use Rattle.std.specs.Prelude.{ℕ, false, List, ◌++◌, codes, Option, option_and_then}
 use Rattle.json_text.specs.Json.{Json, object, no_members, member}
 use Rattle.json_text.specs.Layout.{compact}
 use Rattle.json_text.specs.Text.{text_of}
@@ -7,9 +7,9 @@ use Rattle.name_map.specs.Reading.{map_of}
 use Rattle.name_map.specs.Undoing.{Undoing}
 use Rattle.name_map.specs.Written.{map_value}
 use Rattle.oxc_estree.specs.Out.{Flags}
-use Rattle.serde_json.specs.Data.{Data, Members}
-use Rattle.serde_json.specs.Events.{members_len}
-use Rattle.serde_json.specs.Find.{as_object, get_member}
+use Rattle.serde_json.specs.Data.{Data}
+pub use Rattle.tool_commands.specs.Pairs.{both}
+use Rattle.tool_commands.specs.Pairs.{pair_in}
 use Rattle.tree_core.specs.JsonOf.{json_of}
 use Rattle.tree_core.specs.Reading.{tree_of}
 use Rattle.tree_core.specs.Values.{value_of}
@@ -30,24 +30,6 @@ mapped_value u m = object (member (codes "node") (value_of u) (member (codes "ma
 
 -- ---- as it is read
 
-pub record Pair : Type 0 where
-  pub node : Data
-  pub map : Data
-
-abbrev pub pair : Data → Data → Pair
-pair node map = record { node = node; map = map }
-
--- both of two options
-abbrev pub both : {A B C : Type 0} → (A → B → C) → Option A → Option B → Option C
-both f a b = option_and_then (λ x. option_map (f x) b) a
-
--- the members are exactly `node` and `map`
-abbrev pub pair_among : Members → Option Pair
-pair_among ms = if nat_eq (members_len ms) 2 then both pair (get_member (codes "node") ms) (get_member (codes "map") ms) else None
-
-abbrev pub pair_in : Data → Option Pair
-pair_in d = option_and_then pair_among (as_object d)
-
 -- a tree and a map
 pub record Mapped : Type 0 where
   pub tree : Tree
@@ -58,4 +40,4 @@ mapped t m = record { tree = t; undoing = m }
 
 -- those that a value has as its `node` and `map`
 abbrev pub mapped_in : Data → Option Mapped
-mapped_in d = option_and_then (λ p. both mapped (tree_of (json_of p.node)) (map_of (json_of p.map))) (pair_in d)
+mapped_in d = option_and_then (λ p. both mapped (tree_of (json_of p.first)) (map_of (json_of p.second))) (pair_in (codes "node") (codes "map") d)

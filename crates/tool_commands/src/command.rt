@@ -6,6 +6,7 @@ ghost use Rattle.tool_commands.specs.Command.{IsToolAsked, IsWorkAsked, tool_com
 
 use crate::map_answer::map_answer;
 use crate::refusal::Refusal;
+use crate::report::report_answer;
 use crate::restored_answer::restored_answer;
 use mangle_tool::estree::{CompactStr, MangleOptions};
 use std::alloc::Global;
@@ -19,6 +20,8 @@ pub enum ToolWork {
     Map(MangleOptions),
     /// To give back what a map undoes.
     Restore,
+    /// To tell what is found in a program, by line and column in its source text.
+    Report,
 }
 
 impl Work for ToolWork {
@@ -34,6 +37,7 @@ impl Work for ToolWork {
         match self {
             ToolWork::Map(options) => Ok(map_answer(alloc, input, options)?),
             ToolWork::Restore => restored_answer(alloc, input),
+            ToolWork::Report => report_answer(alloc, input),
         }
     }
 }
@@ -43,6 +47,7 @@ impl Work for ToolWork {
 pub enum CommandWord {
     Map,
     Restore,
+    Report,
 }
 
 /// The work that words ask for. None where the first word is no command word: they ask for a run, or for nothing.
@@ -76,6 +81,13 @@ fn read_work(alloc: Global, word: CommandWord, words: &[CompactStr]) -> Result<T
                 Err(WordError::BadArgument)
             }
         }
+        CommandWord::Report => {
+            if words.is_empty() {
+                Ok(ToolWork::Report)
+            } else {
+                Err(WordError::BadArgument)
+            }
+        }
     }
 }
 
@@ -100,6 +112,9 @@ fn command_word(words: &[CompactStr]) -> Option<CommandWord>
     }
     if word == "restore" {
         return Some(CommandWord::Restore);
+    }
+    if word == "report" {
+        return Some(CommandWord::Report);
     }
     None
 }

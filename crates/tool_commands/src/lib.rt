@@ -4,8 +4,11 @@
 mod command;
 mod map_answer;
 mod mapped_text;
+mod members;
 mod pair;
 mod refusal;
+mod report;
+mod report_text;
 mod restored_answer;
 pub mod run_tool;
 pub mod tool_status;

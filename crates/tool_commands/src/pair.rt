@@ -1,18 +1,19 @@
 //! A program and a map in one value.
 
-ghost use Rattle.std.specs.Prelude.{◌≡◌, false, IfErr, IfOk, None, Some, option_map};
+ghost use Rattle.std.specs.Prelude.{◌≡◌, false, IfErr, IfOk, Some};
 ghost use Rattle.name_map.specs.Reading.{map_of};
-ghost use Rattle.serde_json.specs.View.{members_view, view};
+ghost use Rattle.serde_json.specs.View.{view};
 ghost use Rattle.tool_commands.specs.Mapped as spec;
-ghost use Rattle.tool_commands.specs.Mapped.{mapped_in, pair};
+ghost use Rattle.tool_commands.specs.Mapped.{mapped_in};
 ghost use Rattle.tool_commands.specs.Restore.{IsPairFailure, IsReadFailure};
 ghost use Rattle.tree_core.specs.JsonOf.{json_of};
 ghost use Rattle.tree_core.specs.Limits.{is_too_large};
 ghost use Rattle.tree_core.specs.Reading.{tree_of};
 
+use crate::members::pair_in;
 use mangle_tool::estree::MangleError;
 use name_map::{MapReadError, NameMap, read_map};
-use serde_json::{Map, Value};
+use serde_json::Value;
 use std::alloc::Global;
 use tree_core::{Program, is_too_large, read_tree};
 
@@ -32,7 +33,7 @@ pub(crate) fn read_mapped(alloc: Global, value: &Value) -> Result<Mapped, Mangle
     if is_too_large(value, 0) {
         return Err(MangleError::TooLarge);
     }
-    match pair_in(value) {
+    match pair_in(value, "node", "map") {
         Some((node, map)) => read_pair(alloc, node, map),
         None => Err(MangleError::BadTree),
     }
@@ -49,23 +50,5 @@ fn read_pair(alloc: Global, node: &Value, map: &Value) -> Result<Mapped, MangleE
         Ok(map) => Ok(Mapped { program, map }),
         Err(MapReadError::BadForm) => Err(MangleError::BadTree),
         Err(MapReadError::Memory) => Err(MangleError::Memory),
-    }
-}
-
-// The two members of an object of exactly `node` and `map`.
-fn pair_in(value: &Value) -> Option<(&Value, &Value)>
-    ensures { option_map (λ p. pair (view p.0.now) (view p.1.now)) result ≡ spec.pair_in (view value.now) }
-{
-    pair_among(value.as_object()?)
-}
-
-fn pair_among(members: &Map<String, Value>) -> Option<(&Value, &Value)>
-    ensures { option_map (λ p. pair (view p.0.now) (view p.1.now)) result
-        ≡ spec.pair_among (members_view members.now.entries) }
-{
-    if members.len() == 2 {
-        Some((members.get("node")?, members.get("map")?))
-    } else {
-        None
     }
 }

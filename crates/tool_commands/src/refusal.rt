@@ -10,6 +10,8 @@ pub enum Refusal {
     Input(MangleError),
     /// The map doesn't fit the tree.
     BadMap,
+    /// A place that has a finding starts past the source text or within a character.
+    BadSpan,
 }
 
 impl From<MangleError> for Refusal {

@@ -14,6 +14,8 @@ pub enum ToolStatus {
     Base(Status),
     /// The map doesn't fit the tree.
     BadMap,
+    /// A place that has a finding starts past the source text or within a character.
+    BadSpan,
 }
 
 impl ToolStatus {
@@ -24,6 +26,7 @@ impl ToolStatus {
         match self {
             ToolStatus::Base(status) => status.number(),
             ToolStatus::BadMap => 11,
+            ToolStatus::BadSpan => 14,
         }
     }
 }
@@ -35,6 +38,7 @@ impl From<Refusal> for ToolStatus {
         match refusal {
             Refusal::Input(error) => ToolStatus::Base(Status::from(error)),
             Refusal::BadMap => ToolStatus::BadMap,
+            Refusal::BadSpan => ToolStatus::BadSpan,
         }
     }
 }
@@ -59,5 +63,6 @@ pub fn tool_line(status: ToolStatus) -> &'static str
     match status {
         ToolStatus::Base(status) => status_line(status),
         ToolStatus::BadMap => "mangle: bad map",
+        ToolStatus::BadSpan => "mangle: bad span",
     }
 }

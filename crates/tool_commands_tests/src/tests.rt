@@ -16,7 +16,7 @@ const A_SHORTHAND: &str =
 const MAP: &str = "\n,\"map\":{\"names\":[[0,\"x\"],[2,\"x\"]],\"marks\":[0]}}";
 
 // How a run by these words ends, and what it writes.
-fn end(alloc: Global, line: &str, input: &str) -> Result<(ToolStatus, String), Fail> {
+pub(crate) fn end(alloc: Global, line: &str, input: &str) -> Result<(ToolStatus, String), Fail> {
     let mut words = Vec::new(alloc);
     if !line.is_empty() {
         for word in line.split(' ') {
