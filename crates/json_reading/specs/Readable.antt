@@ -49,3 +49,22 @@ abbrev mutual
   pub members_nesting : Members → ℕ
   members_nesting no_members = 0
   members_nesting (member k x ms) = max (nesting x) (members_nesting ms)
+
+-- no surrogate stands alone in a string or a key
+abbrev mutual
+  pub HasNoLone : Json → Type 0
+  HasNoLone null = Unit {0}
+  HasNoLone (truth b) = Unit {0}
+  HasNoLone (whole z) = Unit {0}
+  HasNoLone other_number = Unit {0}
+  HasNoLone (string us) = has_unpaired_surrogate us ≡ false
+  HasNoLone (list xs) = LackLone xs
+  HasNoLone (object ms) = HaveNoLone ms
+
+  pub LackLone : Items → Type 0
+  LackLone no_items = Unit {0}
+  LackLone (item x xs) = HasNoLone x × LackLone xs
+
+  pub HaveNoLone : Members → Type 0
+  HaveNoLone no_members = Unit {0}
+  HaveNoLone (member k x ms) = (has_unpaired_surrogate k ≡ false) × HasNoLone x × HaveNoLone ms
