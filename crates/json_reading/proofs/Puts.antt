@@ -129,9 +129,9 @@ module _ (k : List ℕ) (x : Json) (ms : Members) (found : parsed.Members) (b : 
   here_new = ap (λ (l : List ℕ). find l found) is ∙ new k x (ap (λ (z : Bool). if z then Some x else find_member k ms) (bytes_same k))
 
   more_new : (d : parsed.Data) → find_member k ms ≡ None → IsNew ms (parsed.put b d found)
-  more_new d no q e f =
+  more_new d none_here q e f =
       let apart : bytes_eq (units_of b) q ≡ false =
-      bytes_differ (units_of b) q (λ same. none_some e (sym no ∙ ap (λ (l : List ℕ). find_member l ms) (sym is ∙ same) ∙ f)) in
+      bytes_differ (units_of b) q (λ same. none_some e (sym none_here ∙ ap (λ (l : List ℕ). find_member l ms) (sym is ∙ same) ∙ f)) in
       put_found b d found here_new q
       ∙ ap (λ (z : Bool). if z then Some (json_of d) else find q found) apart
       ∙ new q e (ap (λ (z : Bool). if z then Some x else find_member q ms) (ap (λ (l : List ℕ). bytes_eq l q) (sym is) ∙ apart) ∙ f)
@@ -147,18 +147,18 @@ found_after no_members found h d new q = refl
 found_after (member k x ms) found h d new q =
     let b : List ℕ = text_in_units k in
     let is : units_of b ≡ k = units_back k h.0 in
-    let no = no_later k ms d in
-    found_after ms (parsed.put b (parsed_as x) found) h.2 no.1 (more_new k x ms found b is new (parsed_as x) no.0) q
+    let none_here = no_later k ms d in
+    found_after ms (parsed.put b (parsed_as x) found) h.2 none_here.1 (more_new k x ms found b is new (parsed_as x) none_here.0) q
     ∙ ap (or_found (option_map back (find_member q ms)))
     (put_found b (parsed_as x) found (here_new k x ms found b is new) q ∙ ap (λ (l : List ℕ). if bytes_eq l q then Some (back x) else find q found) is)
-    ∙ by_test (bytes_eq k q) refl no.0
+    ∙ by_test (bytes_eq k q) refl none_here.0
   where
     by_test : (z : Bool) → bytes_eq k q ≡ z → find_member k ms ≡ None
         → or_found (option_map back (find_member q ms)) (if z then Some (back x) else find q found) ≡ or_found (option_map back (if z then Some x else find_member q ms)) (find q found)
-    by_test true e no =
-        let none : find_member q ms ≡ None = ap (λ (l : List ℕ). find_member l ms) (sym (bytes_equal k q e)) ∙ no in
+    by_test true e none_here =
+        let none : find_member q ms ≡ None = ap (λ (l : List ℕ). find_member l ms) (sym (bytes_equal k q e)) ∙ none_here in
         ap (λ (o : Option Json). or_found (option_map back o) (Some (back x))) none
-    by_test false e no = refl
+    by_test false e none_here = refl
 
 distinct_after : (ms : Members) (found : parsed.Members) → HaveReadable ms → are_distinct ms ≡ true → IsNew ms found → are_distinct (members_of found) ≡ true
     → are_distinct (members_of (members_parsed ms found)) ≡ true
@@ -166,8 +166,8 @@ distinct_after no_members found h d new one = one
 distinct_after (member k x ms) found h d new one =
     let b : List ℕ = text_in_units k in
     let is : units_of b ≡ k = units_back k h.0 in
-    let no = no_later k ms d in
-    distinct_after ms (parsed.put b (parsed_as x) found) h.2 no.1 (more_new k x ms found b is new (parsed_as x) no.0)
+    let none_here = no_later k ms d in
+    distinct_after ms (parsed.put b (parsed_as x) found) h.2 none_here.1 (more_new k x ms found b is new (parsed_as x) none_here.0)
     (put_distinct b (parsed_as x) found (here_new k x ms found b is new) one)
 
 module _ (here : List ℕ → Json → Bool) (test : Members → Bool) (is_test : IsTest here test) (holds : (k : List ℕ) (x : Json) → IsReadable x → here k x ≡ true → here k (back x) ≡ true) where
@@ -177,9 +177,9 @@ module _ (here : List ℕ → Json → Bool) (test : Members → Bool) (is_test 
   test_after (member k x ms) found h d new t one =
       let b : List ℕ = text_in_units k in
       let is : units_of b ≡ k = units_back k h.0 in
-      let no = no_later k ms d in
+      let none_here = no_later k ms d in
       let p = parts here test is_test k x ms t in
-      test_after ms (parsed.put b (parsed_as x) found) h.2 no.1 (more_new k x ms found b is new (parsed_as x) no.0) p.1
+      test_after ms (parsed.put b (parsed_as x) found) h.2 none_here.1 (more_new k x ms found b is new (parsed_as x) none_here.0) p.1
       (put_passes here test is_test b (parsed_as x) found (here_new k x ms found b is new)
       (ap (λ (l : List ℕ). here l (back x)) is ∙ holds k x h.1 p.0) one)
 

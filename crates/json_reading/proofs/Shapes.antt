@@ -85,8 +85,8 @@ node_back ms t h fields e =
     let p = then_some _ (offset_of (find_member (codes "end") ms)) t s.2 in
     let k = if_some (are_distinct ms && only_known r.0.columns ms && is_paired r.0.kind ms) _ t p.2 in
     let fs = map_some _ (run_of (λ c. part_in ms c) r.0.columns) t k.1 in
-    let a = both (are_distinct ms) (only_known r.0.columns ms && is_paired r.0.kind ms) k.0 in
-    let b = both (only_known r.0.columns ms) (is_paired r.0.kind ms) a.1 in
+    let b = both (are_distinct ms && only_known r.0.columns ms) (is_paired r.0.kind ms) k.0 in
+    let a = both (are_distinct ms) (only_known r.0.columns ms) b.0 in
     let found = found_back ms h a.0 in
     let row : row_for ns ≡ Some r.0 =
     ap (λ (o : Option Json). option_and_then row_named (option_and_then text_in o)) (found (codes "type"))
@@ -95,7 +95,7 @@ node_back ms t h fields e =
     let ends : offset_of (find_member (codes "end") ns) ≡ Some p.0 = ap offset_of (found (codes "end")) ∙ under offset_of (below_same (2 ^ 32)) (codes "end") ms h ∙ p.1 in
     let known : only_known r.0.columns ns ≡ true =
     test_back ms h a.0 (λ (l : List ℕ) (d : Json). is_known l r.0.columns || is_blank d) (only_known r.0.columns) (known_test r.0.columns)
-    (λ l x readable f. ap (λ (z : Bool). is_known l r.0.columns || z) (blank_same x readable) ∙ f) b.0 in
+    (λ l x readable f. ap (λ (z : Bool). is_known l r.0.columns || z) (blank_same x readable) ∙ f) a.1 in
     let paired : is_paired r.0.kind ns ≡ true =
     paired_same r.0.kind ms ns (ap is_object (found (codes "value")) ∙ under is_object object_same (codes "value") ms h)
     (ap is_object (found (codes "regex")) ∙ under is_object object_same (codes "regex") ms h) ∙ b.1 in

@@ -58,7 +58,7 @@ rest_small (member k x ms) h = h.1
 
 held_small : (outer k : List ℕ) (v : Json) (ms : Members) → HasSmall v → HaveSmall ms → HaveSmall (held outer k v ms)
 held_small outer k v no_members h i = tt
-held_small outer k v (member l w ms) h i = ((h, i.0, tt), i.1)
+held_small outer k v (member l w ms) h i = ((h, (i.0, tt)), i.1)
 
 either_small : (b : Bool) (a c : Members) → HaveSmall a → HaveSmall c → HaveSmall (if b then a else c)
 either_small true a c h i = h
@@ -70,7 +70,7 @@ put_small Raw c a more h i = held_small _ c.key (atom_value c.class a) more h i
 put_small _ c a more h i = either_small (c.omit && is_null_atom a) more (member c.key (atom_value c.class a) more) i (h, i)
 
 head_small : (k : Kind) (s e : ℕ) (fields : Members) → FitsHead s e → HaveSmall fields → HasSmall (node_value k s e fields)
-head_small k s e fields h i = (tt, omega (arith, h.0), omega (arith, h.1), i)
+head_small k s e fields h i = (tt, (omega (arith, h.0), (omega (arith, h.1), i)))
 
 mutual
   fields_small : (ps : Parts) (cs : List Column) → FitFields ps cs → HaveSmall (fields_value ps cs)
