@@ -10,3 +10,6 @@ pub mod Puts
 pub mod Fields
 pub mod Shapes
 pub mod TreeValues
+-- the limits
+pub mod Sizes
+pub mod TreesRead

@@ -3,4 +3,4 @@
 
 mod laws;
 
-pub use laws::printed_values_are_read;
+pub use laws::{printed_trees_are_read, printed_values_are_read};
