@@ -90,7 +90,7 @@ value_same (object (member k x ms)) p h e = none_some p e
 only_two : (k l : List ℕ) → IsTest (λ (m : List ℕ) (d : Json). bytes_eq m k || bytes_eq m l) (has_only k l)
 only_two k l = record { none = refl; more = λ m d ms. refl }
 
-two_back : (k l : List ℕ) (ms : Members) → HaveReadable ms → (are_distinct ms && has_only k l ms) ≡ true → (are_distinct (members_back ms) && has_only k l (members_back ms)) ≡ true
+pub two_back : (k l : List ℕ) (ms : Members) → HaveReadable ms → (are_distinct ms && has_only k l ms) ≡ true → (are_distinct (members_back ms) && has_only k l (members_back ms)) ≡ true
 two_back k l ms h t =
     let p = both (are_distinct ms) (has_only k l ms) t in
     rw (distinct_back ms h p.0, test_back ms h p.0 (λ (m : List ℕ) (d : Json). bytes_eq m k || bytes_eq m l) (has_only k l) (only_two k l) (λ m x r e. e) p.1) refl

@@ -60,7 +60,7 @@ members_end l (member k x ms) r = refl
 
 -- ---- strings and numbers
 
-string_lexed : (us r : List ℕ) → are_paired us ≡ true → lex between (quoted_units us ++ r) ≡ token (tokens.string (text_in_units us)) ∷ lex between r
+pub string_lexed : (us r : List ℕ) → are_paired us ≡ true → lex between (quoted_units us ++ r) ≡ token (tokens.string (text_in_units us)) ∷ lex between r
 unfolding lex
 string_lexed us r h =
     let s : List ℕ = text_in_units us in

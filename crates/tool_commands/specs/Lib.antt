@@ -4,3 +4,4 @@ pub mod Mapped
 pub mod Restore
 pub mod Status
 pub mod Tool
+pub mod Undone
