@@ -1,11 +1,10 @@
 -- A field that is no node is read from a value as from what the value is read as.
-use Rattle.std.proofs.Common.{◌≡◌, ℕ, pos, negsuc, ◌^◌, List, ◌∷◌, Bool, true, false, ◌&&◌, ◌||◌, codes, Option, Some, None, option_map, option_and_then, if◌then◌else◌, bytes_eq, refl, sym, ap, ap₂, ◌∙◌, subst}
+use Rattle.std.proofs.Common.{◌≡◌, ℕ, pos, negsuc, ◌^◌, List, ◌∷◌, Bool, true, false, ◌&&◌, ◌||◌, codes, Option, Some, None, option_map, option_and_then, if◌then◌else◌, bytes_eq, refl, ap, ap₂, ◌∙◌}
 use Rattle.json_text.specs.Json.{Json, null, truth, whole, other_number, string, list, object, Items, no_items, item, Members, no_members, member}
-use Rattle.json_text.specs.Units.{text_of_units, units_of}
 use Rattle.tree_core.specs.JsonOf.{items_of}
-use Rattle.tree_core.specs.Reading.{are_distinct, below, find_member, has_only, is_blank, is_null_value, is_object, offset_of, one, regex_part, template_part, text_in, units_in, units_in_list, value_part}
+use Rattle.tree_core.specs.Reading.{are_distinct, below, find_member, has_only, is_blank, is_null_value, is_object, one, regex_part, template_part, text_in, units_in, units_in_list, value_part}
 use Rattle.tree_nodes.proofs.Cases.{both, if_some, none_some}
-use Rattle.tree_nodes.specs.Tree.{Parts, empty, flag, text, units}
+use Rattle.tree_nodes.specs.Tree.{Parts, empty, text, units}
 use Rattle.json_reading.proofs.Puts.{IsTest, back, distinct_back, found_back, members_back, test_back}
 use Rattle.json_reading.proofs.Strings.{units_back}
 use Rattle.json_reading.specs.Parsed.{items_parsed}

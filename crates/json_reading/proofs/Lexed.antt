@@ -1,18 +1,18 @@
 -- The lexemes in the text of a value, in any layout.
-use Rattle.std.proofs.Common.{◌≡◌, ℕ, zero, suc, ◌<◌, ◌*◌, ◌^◌, pos, negsuc, List, [], ◌∷◌, ◌++◌, Bool, true, false, cond, codes, replicate, refl, sym, ap, ap₂, ◌∙◌, subst, arith, append_assoc}
+use Rattle.std.proofs.Common.{◌≡◌, ℕ, zero, suc, ◌*◌, pos, negsuc, List, [], ◌∷◌, ◌++◌, Bool, true, false, cond, replicate, refl, ap, ap₂, ◌∙◌, append_assoc}
 use Rattle.std.specs.Fmt.{signed_decimal}
 use Rattle.json.proofs.Printed.Decimals.{IsNumber-decimal, IsNumber-signed_decimal}
 use Rattle.json.proofs.Printed.Numbers.{in_word-ended, lex-number}
 use Rattle.json.proofs.Printed.Strings.{content-escape, lex-escape}
 use Rattle.json.specs.Lex.{Lexeme, between, colon, comma, lex, string_token, token}
-use Rattle.json.specs.Print.{IsNumber, escape, quoted}
+use Rattle.json.specs.Print.{IsNumber, escape}
 use Rattle.json.specs.Token.{bad}
 use Rattle.json.specs.Token as tokens
 use Rattle.json.specs.Word.{ends_word, word}
 use Rattle.json_text.specs.Json.{Json, null, truth, whole, other_number, string, list, object, Items, no_items, item, Members, no_members, member}
 use Rattle.json_text.specs.Layout.{Layout, compact, deeper, new_line, pretty, space}
 use Rattle.json_text.specs.Strings.{quoted_units}
-use Rattle.json_text.specs.Text.{before, closing, comma_unless, items_text, key_text, members_text, text_of}
+use Rattle.json_text.specs.Text.{before, closing, items_text, members_text, text_of}
 use Rattle.json_reading.proofs.Raw.{comma_later, item_lexemes, lexemes, member_lexemes, raw, raw_items, raw_members}
 use Rattle.json_reading.proofs.Strings.{quoted_alike}
 use Rattle.json_reading.specs.Parsed.{text_in_units}

@@ -1,5 +1,5 @@
 -- The lexemes of a value stand where the grammar of `json` asks them to: they are its tokens.
-use Rattle.std.proofs.Common.{◌≡◌, Bool, true, false, cond, List, [], ◌∷◌, ◌++◌, refl, sym, ap, ◌∙◌, append_assoc}
+use Rattle.std.proofs.Common.{◌≡◌, Bool, true, false, cond, List, ◌∷◌, ◌++◌, refl, sym, ap, ◌∙◌, append_assoc}
 use Rattle.json.specs.Json.{Json, null, boolean, number, string, array, object, Items, no_items, item, Members, no_members, member}
 use Rattle.json.specs.Lex.{Lexeme, Place, after_comma, after_key, after_value, begins_colon, fresh, may_begin, punctuate}
 use Rattle.json.specs.Token as tokens

@@ -1,5 +1,5 @@
 -- Members that are put in one after the other: each is found under its key, no key stands twice, and what holds of each holds of all.
-use Rattle.std.proofs.Common.{◌≡◌, ℕ, List, Bool, true, false, not, ◌&&◌, Option, Some, None, option_map, is_some, if◌then◌else◌, bytes_eq, Ordering, Less, Equal, Greater, is_eq, nat_cmp, true≢false, refl, sym, ap, ◌∙◌, subst}
+use Rattle.std.proofs.Common.{◌≡◌, ℕ, List, Bool, true, false, not, ◌&&◌, Option, Some, None, option_map, is_some, if◌then◌else◌, bytes_eq, Ordering, Less, Equal, Greater, is_eq, nat_cmp, true≢false, refl, sym, ap, ◌∙◌}
 use Rattle.std.specs.Cmp.Lexicographic.{slice_cmp}
 use Rattle.std.specs.Ordering.{match_ordering}
 use Rattle.std.proofs.lemmas.Map.Text.{is_eq-slice_cmp}
@@ -44,7 +44,7 @@ swapped false y d e o apart = refl
 found_at : (o : Ordering) (b l : List ℕ) (d e : parsed.Data) (ms : parsed.Members) → slice_cmp nat_cmp b l ≡ o → bytes_eq (units_of l) (units_of b) ≡ false → (q : List ℕ)
     → find q (parsed.put b d ms) ≡ (if bytes_eq (units_of b) q then Some (json_of d) else find q ms)
     → find q (match_ordering o (parsed.member b d (parsed.member l e ms)) (parsed.member l d ms) (parsed.member l e (parsed.put b d ms)))
-        ≡ (if bytes_eq (units_of b) q then Some (json_of d) else find q (parsed.member l e ms))
+    ≡ (if bytes_eq (units_of b) q then Some (json_of d) else find q (parsed.member l e ms))
 found_at Less b l d e ms is apart q later = refl
 found_at Equal b l d e ms is apart q later = absurd (not_tied b l is apart)
 found_at Greater b l d e ms is apart q later =

@@ -1,15 +1,15 @@
 -- What is read from the text of a tree's value is a value of the same tree.
-use Rattle.std.proofs.Common.{◌≡◌, ℕ, pos, negsuc, ◌^◌, List, [], ◌∷◌, Bool, true, false, not, ◌&&◌, ◌||◌, codes, Option, Some, None, option_map, option_and_then, if◌then◌else◌, bytes_eq, refl, sym, ap, ap₂, ◌∙◌, subst}
+use Rattle.std.proofs.Common.{◌≡◌, ℕ, ◌^◌, List, [], ◌∷◌, Bool, true, false, not, ◌&&◌, ◌||◌, codes, Option, Some, None, option_map, option_and_then, if◌then◌else◌, bytes_eq, refl, ap, ap₂, ◌∙◌}
 use Rattle.json_text.specs.Json.{Json, null, truth, whole, other_number, string, list, object, Items, no_items, item, Members, no_members, member}
 use Rattle.tree_core.proofs.FieldUnderKey.{part_found, part_in-part_found}
 use Rattle.tree_core.proofs.ReadTrees.{tree_of-placed}
 use Rattle.tree_core.proofs.ReadsBack.{shape_read}
 use Rattle.tree_core.specs.JsonOf.{items_of}
-use Rattle.tree_core.specs.Reading.{are_distinct, find_member, is_blank, is_known, is_null_value, is_object, is_paired, items_from, list_of, offset_of, one, only_known, or_hole, or_null, outer_key, part_from, part_in, row_for, run_of, shape_from, shape_of, text_in, tree_of, word_number}
-use Rattle.tree_nodes.proofs.Cases.{both, if_some, map_some, none_some, some_same, then_some}
+use Rattle.tree_core.specs.Reading.{are_distinct, find_member, is_blank, is_known, is_null_value, is_object, is_paired, items_from, list_of, offset_of, one, only_known, or_hole, outer_key, part_from, part_in, row_for, run_of, shape_from, shape_of, text_in, tree_of, word_number}
+use Rattle.tree_nodes.proofs.Cases.{both, if_some, map_some, none_some, then_some}
 use Rattle.tree_nodes.specs.Look.{onto}
 use Rattle.tree_nodes.specs.Table.{Column, Row, row_named, word_list}
-use Rattle.tree_nodes.specs.Tree.{Parts, Tree, alone, done, empty, flag, many, text, word}
+use Rattle.tree_nodes.specs.Tree.{Parts, Tree, alone, done, empty, many, text, word}
 use Rattle.tree_nodes.specs.declared.kind.Kind.{Kind}
 use Rattle.tree_nodes.specs.declared.kind.Kind.TheVariants.{Literal}
 use Rattle.tree_nodes.specs.declared.table.Class.{Class as FieldClass}

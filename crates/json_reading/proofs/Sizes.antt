@@ -1,5 +1,5 @@
 -- What is read from a text of fewer than 2^30 bytes is within the limits.
-use Rattle.std.proofs.Common.{◌≡◌, ℕ, zero, suc, ◌+◌, ◌<◌, ◌≤◌, ◌^◌, pos, negsuc, List, [], ◌∷◌, ◌++◌, length, Bool, true, false, cond, ◌||◌, nat_lt, nat_le, Ordering, Less, Equal, Greater, nat_cmp, decimal, refl, sym, ap, ◌∙◌, arith, length-append}
+use Rattle.std.proofs.Common.{◌≡◌, ℕ, ◌+◌, ◌<◌, ◌≤◌, ◌^◌, pos, negsuc, List, [], ◌∷◌, ◌++◌, length, Bool, true, false, cond, ◌||◌, nat_lt, Ordering, Less, Equal, Greater, nat_cmp, refl, ap, arith, length-append}
 use Rattle.std.proofs.lemmas.Bool.{lt-leb, or_parts}
 use Rattle.std.proofs.lemmas.Fmt.{decimal_nonempty}
 use Rattle.std.specs.Cmp.Lexicographic.{slice_cmp}
@@ -12,7 +12,7 @@ use Rattle.json_text.specs.Strings.{quoted_units}
 use Rattle.json_text.specs.Text.{before, items_text, key_text, members_text, text_of}
 use Rattle.serde_json.specs.Data as parsed
 use Rattle.serde_json.specs.Events.{items_len}
-use Rattle.tree_core.specs.Limits.{has_long_item, has_long_member, has_long_part, is_long_array, is_long_text, is_too_large, objects_in, objects_in_items, objects_in_members}
+use Rattle.tree_core.specs.Limits.{has_long_item, has_long_member, has_long_part, is_long_text, objects_in, objects_in_items, objects_in_members}
 use Rattle.json_reading.proofs.Strings.{quoted_alike}
 use Rattle.json_reading.specs.Parsed.{items_parsed, members_parsed, parsed_as, text_in_units}
 use Rattle.json_reading.specs.Readable.{AreReadable, HasBits, HaveReadable, IsReadable, are_paired}
@@ -117,8 +117,13 @@ mutual
       → objects_in_members (members_parsed ms found) ≤ length (members_text first l ms) + objects_in_members found
   members_counted first l no_members found h = omega arith
   members_counted first l (member k x ms) found h =
-      omega (arith, objects_counted (deeper l) x h.1, members_counted false l ms (parsed.put (text_in_units k) (parsed_as x) found) h.2,
-      objects_put (text_in_units k) (parsed_as x) found, four (before first (deeper l)) (key_text (deeper l) k) (text_of (deeper l) x) (members_text false l ms))
+      omega (
+        arith,
+        objects_counted (deeper l) x h.1,
+        members_counted false l ms (parsed.put (text_in_units k) (parsed_as x) found) h.2,
+        objects_put (text_in_units k) (parsed_as x) found,
+        four (before first (deeper l)) (key_text (deeper l) k) (text_of (deeper l) x) (members_text false l ms),
+      )
 
 -- ---- how long its parts are
 

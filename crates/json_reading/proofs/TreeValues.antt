@@ -1,10 +1,9 @@
 -- The value of a tree in which no surrogate stands alone can be read.
-use Rattle.std.proofs.Common.{◌≡◌, ℕ, pos, negsuc, ◌<◌, ◌^◌, List, [], ◌∷◌, Bool, true, false, not, ◌&&◌, nat_lt, Option, Some, None, if◌then◌else◌, refl, sym, ap, ◌∙◌, arith, ltb-true}
+use Rattle.std.proofs.Common.{◌≡◌, ℕ, pos, ◌<◌, ◌^◌, List, [], ◌∷◌, Bool, true, false, ◌&&◌, nat_lt, Some, None, if◌then◌else◌, refl, arith, ltb-true}
 use Rattle.std.specs.Char.Utf16.{has_unpaired_surrogate}
 use Rattle.json_text.proofs.Units.{are_code_units-AreCodeUnits}
 use Rattle.json_text.specs.HasText.{AreCodeUnits, HasText, ItemsHaveText, MembersHaveText}
 use Rattle.json_text.specs.Json.{Json, null, truth, whole as number, other_number, string, list, object, Items, no_items, item, Members, no_members, member}
-use Rattle.json_text.specs.Units.{are_code_units}
 use Rattle.tree_core.proofs.FieldClasses.{put_at}
 use Rattle.tree_core.proofs.Fits.{FitFields, FitItems, Fits, FitsAtom, FitsHead}
 use Rattle.tree_core.proofs.ReadsBack.{tree_fits, tree_has_text}

@@ -1,5 +1,5 @@
 -- The text of a value in which no surrogate stands alone is UTF-8.
-use Rattle.std.proofs.Common.{◌≡◌, ℕ, zero, suc, ◌<◌, ◌≤◌, ◌*◌, pos, negsuc, List, [], ◌∷◌, ◌++◌, Bool, true, false, replicate, decimal, IsUtf8, refl, sym, subst, arith}
+use Rattle.std.proofs.Common.{◌≡◌, ℕ, zero, suc, ◌*◌, pos, negsuc, List, [], ◌∷◌, ◌++◌, Bool, true, false, replicate, decimal, IsUtf8, refl, sym, subst, arith}
 use Rattle.std.specs.Fmt.{signed_decimal}
 use Rattle.std.proofs.lemmas.Fmt.{IsAscii-decimal}
 use Rattle.std.proofs.lemmas.Str.{IsUtf8-append, IsUtf8-from_ascii, IsUtf8-nil}
@@ -7,7 +7,7 @@ use Rattle.json.proofs.Printed.Utf8.{IsUtf8-are_ascii, IsUtf8-quoted}
 use Rattle.json_text.specs.Json.{Json, null, truth, whole, other_number, string, list, object, Items, no_items, item, Members, no_members, member}
 use Rattle.json_text.specs.Layout.{Layout, compact, deeper, new_line, pretty, space}
 use Rattle.json_text.specs.Strings.{quoted_units}
-use Rattle.json_text.specs.Text.{before, closing, comma_unless, items_text, key_text, members_text, text_of}
+use Rattle.json_text.specs.Text.{before, closing, items_text, key_text, members_text, text_of}
 use Rattle.json_reading.proofs.Strings.{quoted_alike, text_utf8}
 use Rattle.json_reading.specs.Parsed.{text_in_units}
 use Rattle.json_reading.specs.Readable.{AreReadable, HasBits, HaveReadable, IsReadable, are_paired}
