@@ -44,7 +44,7 @@ HELPERS = {
     "tree_nodes": "Kind literals roles own_name_at get_column word_list",
     "tree_core": "is_too_large",
     "place_list": "same_number",
-    "scope_tables": "Faults",
+    "scope_tables": "Faults roles sites sets bound_place",
 }
 
 # ---- the sources
