@@ -1,7 +1,7 @@
-use Rattle.std.specs.Prelude.{◌≡◌, ◌≤◌, ◌<◌, ◌+◌, ◌^◌, ℕ, List, None, Option, get_or, length}
+use Rattle.std.specs.Prelude.{◌≡◌, ◌<◌, ◌+◌, ◌^◌, List, None, Option, get_or, length}
 use Rattle.std.proofs.Common.{ap, arith, sym, ◌∙◌}
 use Rattle.mangle_options.specs.Settings.{options_in, reserved_in}
-use Rattle.name_rules.specs.Options.{Options, renames_root}
+use Rattle.name_rules.specs.Options.{renames_root}
 use Rattle.oxc_mangler.proofs.AllFound.{asked_alike, classes_of_tree, named_alike}
 use Rattle.oxc_mangler.proofs.NamesMeetLaws.{names_meet_laws}
 use Rattle.oxc_mangler.proofs.OptionsTold.{options_reserved}
@@ -13,11 +13,10 @@ use Rattle.scope_rules.specs.Faults.{has_fault}
 use Rattle.scope_rules.specs.Symbols.{symbols}
 use Rattle.scope_tables.proofs.NodeIndex.{nodes_rise}
 use Rattle.scope_tables.specs.declared.tables.ScopeTables.{ScopeTables}
-use Rattle.tree_nodes.specs.NodeCount.{node_count, nodes_in}
+use Rattle.tree_nodes.specs.NodeCount.{nodes_in}
 use Rattle.tree_nodes.specs.Tree.{Text, alone}
 use Rattle.tree_places.specs.Places.{Place, places}
-use Rattle.tree_symbols.specs.Scopings.{name_set, places_of, scope_nodes_of, scopes_of, tables_of}
-use Rattle.tree_symbols.specs.declared.scoping.Scoping.{Scoping}
+use Rattle.tree_symbols.specs.Scopings.{name_set, places_of, tables_of}
 use Rattle.oxc_mangler.proofs.mangler.mangle.Goals as goal
 
 pub from_list-requires-clause-rising : goal.from_list-requires-clause-rising

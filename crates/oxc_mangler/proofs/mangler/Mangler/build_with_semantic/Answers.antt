@@ -1,4 +1,4 @@
-use Rattle.std.specs.Prelude.{◌≡◌, ◌≤◌, ◌<◌, ◌+◌, ◌^◌, List, None, Option, get_or, length, map}
+use Rattle.std.specs.Prelude.{◌≡◌, ◌<◌, ◌+◌, ◌^◌, List, None, Option, get_or, length, map}
 use Rattle.std.proofs.Common.{ap, arith, subst, sym, ◌∙◌}
 use Rattle.std.proofs.lemmas.List.{length-map}
 use Rattle.mangle_options.specs.Settings.{options_in, reserved_in}
@@ -88,7 +88,7 @@ returns-clause-laws c = λ r program a.
     }) in
     let root = c.renames_first-top_level.ensures r (ap nodes.nodes_in c.nodes.ensures ∙ a.nodes) in
     let are = asked_alike (options_in c.options_or_usual-options.result c.renames_first-top_level.result) (asked (options_of c.args.self) t) t c.in_ok-found.found.symbols
-        (ap (options_in c.options_or_usual-options.result) root ∙ c.options_or_usual-options.ensures.asked t) found in
+    (ap (options_in c.options_or_usual-options.result) root ∙ c.options_or_usual-options.ensures.asked t) found in
     let one : length (nodes.nodes_in (nodes_of c.args.semantic.now)) ≡ length (map told (nested_nodes t)) = ap length a.nodes in
     let two : length (map told (nested_nodes t)) ≡ length (nested_nodes t) = length-map (nested_nodes t) told in
     let three : length (nested_nodes t) ≡ nodes_in t = nodes_counted t in
