@@ -5,6 +5,7 @@ use Rattle.bundle_rules.specs.Bundles.{IsBundle}
 use Rattle.bundle_rules.specs.Joined.{body}
 use Rattle.bundle_rules.specs.Moves.{IsBare, Moves, moves_after, no_moves}
 use Rattle.scope_rules.specs.Bindings.{bindings, same_name}
+use Rattle.scope_rules.specs.PrivateNames.{private_bindings}
 use Rattle.tree_nodes.specs.NodeCount.{nodes_in}
 use Rattle.tree_nodes.specs.Tree.{Tree, alone}
 use Rattle.tree_places.specs.Places.{Place, places}
@@ -21,6 +22,10 @@ all_moved bound m (t ∷ ts) = bindings_moved m (bound (places (alone t))) ++ al
 -- every place of a module has in the joined one the binding that it has in its own, moved, or none in both
 abbrev pub BundlesKeepBindings : Type 0
 BundlesKeepBindings = (ts : List Tree) (w : Tree) → AllByRecursion IsBare ts → IsBundle ts w → bindings same_name (places (alone w)) ≡ all_moved (bindings same_name) no_moves ts
+
+-- the same of private names
+abbrev pub BundlesKeepPrivateNames : Type 0
+BundlesKeepPrivateNames = (ts : List Tree) (w : Tree) → AllByRecursion IsBare ts → IsBundle ts w → private_bindings same_name (places (alone w)) ≡ all_moved (private_bindings same_name) no_moves ts
 
 -- bindings among nodes past the first ones, so many
 abbrev pub LieWithin : ℕ → ℕ → List (Option ℕ) → Type 0

@@ -1,6 +1,6 @@
 //! The laws on joined modules. The functions here do nothing: each has a law as its contract.
 
-ghost use Rattle.bundle_rules.specs.Laws.{BundlesKeepBindings, ModulesShareNoBinding};
+ghost use Rattle.bundle_rules.specs.Laws.{BundlesKeepBindings, BundlesKeepPrivateNames, ModulesShareNoBinding};
 ghost use Rattle.bundle_rules.specs.Moves.{JoiningMovesPlaces};
 
 /// The law that the places of modules one after another are theirs, in order, each with what holds where it
@@ -14,6 +14,11 @@ pub fn joining_moves_places()
 /// in both.
 pub fn bundles_keep_bindings()
     ensures { BundlesKeepBindings }
+{}
+
+/// The same law of private names.
+pub fn bundles_keep_private_names()
+    ensures { BundlesKeepPrivateNames }
 {}
 
 /// The law that the bindings of each module are among its own nodes in the joined one, past those of the modules
