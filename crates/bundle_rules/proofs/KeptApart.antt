@@ -34,7 +34,7 @@ use Rattle.tree_places.specs.Scopes.{Scope, is_inside, same_scope}
 -- ---- a module among the others
 
 -- tags rise
-tags_from : (i : ℕ) (m : Moves) (ds : List Part) (q : Named Tagged) → In q (tagged i m ds) → i ≤ q.name.0
+pub tags_from : (i : ℕ) (m : Moves) (ds : List Part) (q : Named Tagged) → In q (tagged i m ds) → i ≤ q.name.0
 tags_from i m ds q h = let s = source i m ds q h in subst (λ (p : Named Tagged). i ≤ p.name.0) (sym s.is) (omega arith)
 
 before_more : (i k : ℕ) (m : Moves) (ps : List Place) (front : List (Named Tagged)) → ((q : Named Tagged) → In q front → nat_eq q.name.0 (suc i + k) ≡ false)

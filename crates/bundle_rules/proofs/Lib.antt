@@ -13,4 +13,6 @@ pub mod KeptApart
 pub mod ClassesLie
 pub mod PrivateKept
 pub mod BundleBindings
+pub mod JointFaults
+pub mod BundleFaults
 pub mod NodesLie

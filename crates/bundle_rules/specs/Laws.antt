@@ -1,10 +1,11 @@
 -- The laws on joined modules.
-use Rattle.std.specs.Prelude.{◌≡◌, ◌<◌, ◌≤◌, IfSome, ⊤, ℕ, ◌+◌, List, [], ◌∷◌, ◌++◌, map, Option, option_map}
+use Rattle.std.specs.Prelude.{◌≡◌, ◌<◌, ◌≤◌, IfSome, IsFalse, ⊤, ℕ, ◌+◌, List, [], ◌∷◌, ◌++◌, map, Option, option_map}
 use Rattle.std.specs.List.{AllByRecursion}
 use Rattle.bundle_rules.specs.Bundles.{IsBundle}
 use Rattle.bundle_rules.specs.Joined.{body}
 use Rattle.bundle_rules.specs.Moves.{IsBare, Moves, moves_after, no_moves}
 use Rattle.scope_rules.specs.Bindings.{bindings, same_name}
+use Rattle.scope_rules.specs.Faults.{has_fault}
 use Rattle.scope_rules.specs.PrivateNames.{private_bindings}
 use Rattle.tree_nodes.specs.NodeCount.{nodes_in}
 use Rattle.tree_nodes.specs.Tree.{Tree, alone}
@@ -26,6 +27,13 @@ BundlesKeepBindings = (ts : List Tree) (w : Tree) → AllByRecursion IsBare ts �
 -- the same of private names
 abbrev pub BundlesKeepPrivateNames : Type 0
 BundlesKeepPrivateNames = (ts : List Tree) (w : Tree) → AllByRecursion IsBare ts → IsBundle ts w → private_bindings same_name (places (alone w)) ≡ all_moved (private_bindings same_name) no_moves ts
+
+abbrev pub AreFaultless : List Tree → Type 0
+AreFaultless ts = AllByRecursion (λ t. IsFalse (has_fault same_name (places (alone t)))) ts
+
+-- modules without a fault have none together
+abbrev pub BundlesHaveNoFault : Type 0
+BundlesHaveNoFault = (ts : List Tree) (w : Tree) → AllByRecursion IsBare ts → AreFaultless ts → IsBundle ts w → IsFalse (has_fault same_name (places (alone w)))
 
 -- bindings among nodes past the first ones, so many
 abbrev pub LieWithin : ℕ → ℕ → List (Option ℕ) → Type 0
