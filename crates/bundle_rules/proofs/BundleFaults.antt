@@ -56,12 +56,12 @@ each_faultless (u ∷ ts) f t (inr i) = each_faultless ts f.1 t i
 
 -- ---- a name is declared again
 
+nothing : has_redeclaration same_tagged [] ≡ false
+unfolding has_redeclaration
+nothing = refl
+
 no_redeclaration : (i : ℕ) (m : Moves) (ds : List Part) → ((k : ℕ) (d : Part) → slice_get ds k ≡ Some d → has_redeclaration same_name (places (alone d.tree)) ≡ false) → has_redeclaration same_tagged (tagged i m ds) ≡ false
 no_redeclaration i m [] h = nothing
-  where
-    nothing : has_redeclaration same_tagged [] ≡ false
-    unfolding has_redeclaration
-    nothing = refl
 no_redeclaration i m (d ∷ ds) h =
     redeclared_none i m (places (alone d.tree)) (tagged (suc i) (moves_after m d.tree) ds)
     (λ q j. ne_eqb q.name.0 i (λ e. omega (arith, e, tags_from (suc i) (moves_after m d.tree) ds q j)))

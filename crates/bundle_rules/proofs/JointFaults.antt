@@ -184,7 +184,9 @@ redeclares_moved i m p q =
 
 redeclares_none : (i : ℕ) (m : Moves) (p : Place) (q : Named Tagged) → nat_eq q.name.0 i ≡ false → redeclares same_tagged (tag i m p) q ≡ false
 unfolding all_open
-redeclares_none i m p q e = and_left _ _ (and_right _ _ (and_right _ _ (and_right _ _ (and_left _ _ e))))
+redeclares_none i m p q e =
+    and_left (declares_plainly p.site && (declares_plainly q.site && (same_scope (home q.site) (home (moved_site m p.site)) && same_tagged q.name (i, p.name)))) _
+    (and_right (declares_plainly p.site) _ (and_right (declares_plainly q.site) _ (and_right (same_scope (home q.site) (home (moved_site m p.site))) _ (and_left (nat_eq q.name.0 i) (same_name q.name.1 p.name) e))))
 
 pub redeclared_none : (i : ℕ) (m : Moves) (ps : List Place) (rest : List (Named Tagged)) → ((q : Named Tagged) → In q rest → nat_eq q.name.0 i ≡ false) → has_redeclaration same_name ps ≡ false → has_redeclaration same_tagged rest ≡ false
     → has_redeclaration same_tagged (map (tag i m) ps ++ rest) ≡ false

@@ -17,11 +17,11 @@ use Rattle.scope_rules.proofs.PlacesRise.{site_in}
 use Rattle.scope_rules.proofs.SameNames.{same_name_tells}
 use Rattle.scope_rules.specs.Bindings.{binding, node_of, same_name}
 use Rattle.scope_rules.specs.Open.{all_open}
-use Rattle.scope_rules.specs.PrivateNames.{declares_private, declares_private_name, is_innermost, private_binder, private_binding, private_bindings}
+use Rattle.scope_rules.specs.PrivateNames.{declares_private, declares_private_name, is_innermost, is_member_key, private_binder, private_binding, private_bindings}
 use Rattle.scope_rules.specs.Renamings.{all_under, under}
 use Rattle.tree_nodes.specs.Tree.{Text, Tree, alone}
 use Rattle.tree_places.specs.Chosen.{or_own}
-use Rattle.tree_places.specs.Places.{Named, Place}
+use Rattle.tree_places.specs.Places.{Named, Place, Site}
 
 -- a private place is no variable place
 unbound : (ps : List Place) (q : Place) → q.site.private ≡ true → binding same_name ps q ≡ None
@@ -31,6 +31,12 @@ unbound ps q e = go q.site.private _ _ _ _ _ _ e
     go : (b x y z : Bool) (o n p : Option ℕ) → b ≡ true → cond (not b && x) o (cond ((not b && y) && z) n (cond (not b && y) p None)) ≡ None
     go true x y z o n p e = refl
     go false x y z o n p e = absurd (cc)
+
+declaring : (c : ℕ) (s : Site) → declares_private c s ≡ true → (s.private ≡ true) × (is_innermost c s.setting.classes ≡ true)
+unfolding declares_private
+declaring c s e =
+    let p : ((s.private && is_member_key s.setting.role) ≡ true) × (is_innermost c s.setting.classes ≡ true) = and_parts _ _ e in
+    ((and_parts s.private (is_member_key s.setting.role) p.0).0, p.1)
 
 -- the innermost class body of a list that was moved
 innermost : (d c : ℕ) (ks : List ℕ) (n : ℕ) → Below n ks → is_innermost c (map (λ k. d + k) ks) ≡ true → (d ≤ c) × (c < d + n)
@@ -84,8 +90,9 @@ module _ (ts us : List Tree) (given : List Text) (a : AreParts (modules_of ts) [
       to : declares_private_name same_name x ((moves k).bodies + c) (under called q) ≡ true → declares_private_name same_tagged (0 + k, x) ((moves k).bodies + c) q ≡ true
       to h =
           let p : (declares_private ((moves k).bodies + c) q.site ≡ true) × (same_name (called q) x ≡ true) = and_parts _ _ h in
-          let private : q.site.private ≡ true = (and_parts _ _ (and_parts _ _ p.0).0).0 in
-          let inner : is_innermost ((moves k).bodies + c) q.site.setting.classes ≡ true = (and_parts _ _ p.0).1 in
+          let three = declaring ((moves k).bodies + c) q.site p.0 in
+          let private : q.site.private ≡ true = three.0 in
+          let inner : is_innermost ((moves k).bodies + c) q.site.setting.classes ≡ true = three.1 in
           let moved : is_innermost ((moves k).bodies + c) (map (λ n. (moves s.k).bodies + n) s.place.site.setting.classes) ≡ true = subst (λ (r : Named Tagged). is_innermost ((moves k).bodies + c) r.site.setting.classes ≡ true) s.is inner in
           let range = innermost (moves s.k).bodies ((moves k).bodies + c) s.place.site.setting.classes (classes_in s.part.tree) (around s.k s.part s.place s.at s.among) moved in
           let one : k ≡ s.k = one_module k s.k d s.part ((moves k).bodies + c) e s.at (omega arith) (omega (arith, l)) range.0 range.1 in
@@ -95,7 +102,7 @@ module _ (ts us : List Tree) (given : List Text) (a : AreParts (modules_of ts) [
       from : declares_private_name same_tagged (0 + k, x) ((moves k).bodies + c) q ≡ true → declares_private_name same_name x ((moves k).bodies + c) (under called q) ≡ true
       from h =
           let p : (declares_private ((moves k).bodies + c) q.site ≡ true) × (same_tagged q.name (0 + k, x) ≡ true) = and_parts _ _ h in
-          let private : q.site.private ≡ true = (and_parts _ _ (and_parts _ _ p.0).0).0 in
+          let private : q.site.private ≡ true = (declaring ((moves k).bodies + c) q.site p.0).0 in
           and_from _ _ p.0 (subst (λ (y : Text). same_name y x ≡ true) (sym (keeps_name q i private)) (and_parts _ _ p.1).1)
 
   binder_same : (k : ℕ) (d : Part) (x : Text) (cs : List ℕ) → slice_get (ds ts us given a bare) k ≡ Some d → Below (classes_in d.tree) cs
