@@ -103,7 +103,7 @@ module _ (ts us : List Tree) (given : List Text) (a : AreParts (modules_of ts) [
       from h =
           let p : (declares_private ((moves k).bodies + c) q.site ≡ true) × (same_tagged q.name (0 + k, x) ≡ true) = and_parts _ _ h in
           let private : q.site.private ≡ true = (declaring ((moves k).bodies + c) q.site p.0).0 in
-          and_from _ _ p.0 (subst (λ (y : Text). same_name y x ≡ true) (sym (keeps_name q i private)) (and_parts _ _ p.1).1)
+          and_from _ _ p.0 (subst (λ (y : Text). same_name y x ≡ true) (sym (keeps_name q i private)) (and_parts (nat_eq q.name.0 (0 + k)) (same_name q.name.1 x) p.1).1)
 
   binder_same : (k : ℕ) (d : Part) (x : Text) (cs : List ℕ) → slice_get (ds ts us given a bare) k ≡ Some d → Below (classes_in d.tree) cs
       → private_binder same_name (all_under called js) x (map (λ c. (moves k).bodies + c) cs) ≡ private_binder same_tagged js (0 + k, x) (map (λ c. (moves k).bodies + c) cs)
