@@ -40,10 +40,10 @@ abbrev pub LieWithin : ℕ → ℕ → List (Option ℕ) → Type 0
 LieWithin first many bs = AllByRecursion (λ b. IfSome b (λ n. (first < n) × (n ≤ first + many))) bs
 
 -- those of each module are among its own nodes, which come after those of the modules before
-abbrev pub AreApart : Moves → List Tree → Type 0
-AreApart m [] = ⊤
-AreApart m (t ∷ ts) = LieWithin m.nodes (nodes_in (body t)) (bindings_moved m (bindings same_name (places (alone t)))) × AreApart (moves_after m t) ts
+abbrev pub AreApart : (List Place → List (Option ℕ)) → Moves → List Tree → Type 0
+AreApart bound m [] = ⊤
+AreApart bound m (t ∷ ts) = LieWithin m.nodes (nodes_in (body t)) (bindings_moved m (bound (places (alone t)))) × AreApart bound (moves_after m t) ts
 
--- so no two modules have places of one binding
+-- so no two modules have places of one binding, nor of one private name's
 abbrev pub ModulesShareNoBinding : Type 0
-ModulesShareNoBinding = (ts : List Tree) → AllByRecursion IsBare ts → AreApart no_moves ts
+ModulesShareNoBinding = (ts : List Tree) → AllByRecursion IsBare ts → AreApart (bindings same_name) no_moves ts × AreApart (private_bindings same_name) no_moves ts

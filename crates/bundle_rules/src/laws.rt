@@ -27,7 +27,7 @@ pub fn bundles_have_no_fault()
 {}
 
 /// The law that the bindings of each module are among its own nodes in the joined one, past those of the modules
-/// before: so no two modules have places of one binding.
+/// before, and those of its private names: so no two modules have places of one binding.
 pub fn modules_share_no_binding()
     ensures { ModulesShareNoBinding }
 {}
