@@ -1,10 +1,10 @@
 -- Joined modules have no fault where none of them has one.
-use Rattle.std.proofs.Common.{◌≡◌, ℕ, zero, suc, ◌+◌, Bool, true, false, cond, ◌||◌, nat_eq, List, [], ◌∷◌, ◌++◌, map, Option, Some, slice_get, refl, sym, ap, subst, ◌∙◌, arith, inl, inr}
+use Rattle.std.proofs.Common.{◌≡◌, ℕ, suc, ◌+◌, Bool, true, false, cond, ◌||◌, List, [], ◌∷◌, ◌++◌, map, Some, slice_get, refl, sym, ap, subst, ◌∙◌, arith, inl, inr}
 use Rattle.std.proofs.lemmas.Bool.{both_ways, ne_eqb, or_from, or_parts}
-use Rattle.std.specs.List.{AllByRecursion, Contains, list_any}
+use Rattle.std.specs.List.{AllByRecursion, list_any}
 use Rattle.bundle_rules.proofs.BundlePlaces.{moves_at, new, tagged}
 use Rattle.bundle_rules.proofs.JointFaults.{crosses_moved, reaches_moved, redeclared_none, sloppy_moved, undeclared_moved}
-use Rattle.bundle_rules.proofs.KeptApart.{Src, ds, joint, keeps_apart, new_names, old, rises, split, src, tags_from, tree_of_part, whole}
+use Rattle.bundle_rules.proofs.KeptApart.{Src, ds, joint, keeps_apart, new_names, rises, split, src, tags_from, tree_of_part, whole}
 use Rattle.bundle_rules.proofs.NewNamesApart.{Part}
 use Rattle.bundle_rules.proofs.PrivateKept.{private_kept}
 use Rattle.bundle_rules.proofs.TaggedPlaces.{Tagged, same_tagged, tag, tagged_tells}
@@ -129,8 +129,8 @@ module _ (ts us : List Tree) (given : List Text) (a : AreParts (modules_of ts) [
       let s = split 0 no_moves parts k d e in
       let ps = places (alone d.tree) in
       subst (λ (qs : List (Named Tagged)). ((p : Named Tagged) → In p qs → (r : Place) → In r ps → node p ≡ (moves k).nodes + node r → p.name.0 ≡ 0 + k)
-          → ((p : Named Tagged) → In p qs → (r : Place) → In r ps → binding same_tagged qs p ≡ Some ((moves k).nodes + node r) → p.name.0 ≡ 0 + k)
-          → reaches qs (tag (0 + k) (moves k) q) ≡ reaches_own ps q) (sym s.is)
+      → ((p : Named Tagged) → In p qs → (r : Place) → In r ps → binding same_tagged qs p ≡ Some ((moves k).nodes + node r) → p.name.0 ≡ 0 + k)
+      → reaches qs (tag (0 + k) (moves k) q) ≡ reaches_own ps q) (sym s.is)
       (λ n b. reaches_moved (0 + k) (moves k) ps s.front s.back s.before s.after n b (sources d) q i)
       (by_node k d e) (by_binding k d e)
 

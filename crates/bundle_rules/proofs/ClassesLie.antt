@@ -1,5 +1,5 @@
 -- The class bodies around a place are among those that the walk has met: so those of different modules are apart.
-use Rattle.std.proofs.Common.{◌≡◌, ◌<◌, ◌≤◌, ℕ, zero, suc, ◌+◌, Bool, true, false, List, [], ◌∷◌, Some, slice_get, refl, sym, subst, arith}
+use Rattle.std.proofs.Common.{◌≡◌, ◌<◌, ◌≤◌, ℕ, zero, suc, ◌+◌, Bool, true, false, cond, List, [], ◌∷◌, length, Some, slice_get, refl, sym, subst, arith}
 use Rattle.bundle_rules.proofs.BundlePlaces.{moves_at}
 use Rattle.bundle_rules.proofs.JoinedSites.{bare_seen, body_column, root_seen, statements_seen, top}
 use Rattle.bundle_rules.proofs.NewNamesApart.{Part}
@@ -63,7 +63,7 @@ met_below NameHere b e strict s p a = record { more = omega arith; all = (p, a);
 met_below PrivateNameHere b e strict s p a = record { more = omega arith; all = (p, a); inside = p }
 met_below BareBlock b e strict s p a = record { more = omega arith; all = a; inside = go e.bare }
   where
-    go : (c : Bool) → Below s.classes (Rattle.std.specs.Prelude.cond c (record e { strict = strict }) (record e { strict = strict; scope = Rattle.std.specs.Prelude.length s.scopes ∷ e.scope })).classes
+    go : (c : Bool) → Below s.classes (cond c (record e { strict = strict }) (record e { strict = strict; scope = length s.scopes ∷ e.scope })).classes
     go true = p
     go false = p
 

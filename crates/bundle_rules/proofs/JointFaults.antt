@@ -1,14 +1,14 @@
 -- What makes a module faulty, among the places of others under names with the module's number: each test tells what it tells in the module alone.
-use Rattle.std.proofs.Common.{◌≡◌, ℕ, ◌+◌, Bool, true, false, ◌&&◌, ◌||◌, not, nat_eq, List, [], ◌∷◌, ◌++◌, map, Option, Some, None, is_some, refl, sym, ap, ap₂, subst, ◌∙◌, arith, inl, inr, ◌⊎◌}
-use Rattle.std.proofs.lemmas.Bool.{and_left, and_parts, and_right, both_ways, eq-eqb, eqb-true, ne_eqb, or_from, or_parts}
+use Rattle.std.proofs.Common.{◌≡◌, ℕ, ◌+◌, Bool, true, false, ◌&&◌, ◌||◌, not, nat_eq, List, [], ◌∷◌, ◌++◌, map, Option, Some, None, is_some, refl, sym, ap, ap₂, ◌∙◌, arith}
+use Rattle.std.proofs.lemmas.Bool.{and_left, and_right, both_ways, eq-eqb, eqb-true, ne_eqb, or_from, or_parts}
 use Rattle.std.proofs.lemmas.List.Folds.{list_any-append}
 use Rattle.std.specs.List.{list_any}
 use Rattle.bundle_rules.proofs.TaggedPlaces.{Tagged, at_home_moved, binding_moved, home_moved, moved_node, number_once, private_binding_moved, same_moved, same_tagged, tag}
 use Rattle.bundle_rules.specs.Moves.{Moves, moved_number, moved_scope, moved_site}
 use Rattle.list_laws.proofs.AnyOf.{any_map, any_none, any_same}
-use Rattle.list_laws.proofs.Members.{In, from_append, from_map, in_left, in_right}
-use Rattle.list_laws.proofs.Tests.{tests_agree}
-use Rattle.scope_rules.specs.Bindings.{Bound, at_home, binding, bound, is_binding, is_node, node, same_name}
+use Rattle.list_laws.proofs.Members.{In, in_left, in_right}
+use Rattle.list_laws.proofs.Tests.{some_one, tests_agree}
+use Rattle.scope_rules.specs.Bindings.{Bound, at_home, binding, bound, is_node, node, same_name}
 use Rattle.scope_rules.specs.Evals.{contains}
 use Rattle.scope_rules.specs.Faults.{binds_in, crosses, declares_in_head, has_redeclaration, is_of_body, is_plain_function, is_scope, is_single_at, is_sloppy_function, is_undeclared, reaches_body, redeclares}
 use Rattle.scope_rules.specs.Homes.{declares, declares_plainly, home, is_joinable, is_single, is_var, joins, lies_in_var_scope, names_function, refers}
@@ -166,7 +166,7 @@ module _ (i : ℕ) (m : Moves) (ps : List Place) (front back : List (Named Tagge
         go (Some n) None e f = absurd (cc)
         go (Some n) (Some k) e f =
             let r = sources p ip n e in
-            let number : k ≡ m.nodes + node r.0 = Rattle.list_laws.proofs.Tests.some_one _ _ f ∙ ap (λ (l : ℕ). m.nodes + l) (sym r.2) in
+            let number : k ≡ m.nodes + node r.0 = some_one _ _ f ∙ ap (λ (l : ℕ). m.nodes + l) (sym r.2) in
             ap (λ (l : ℕ). list_any (is_of_body of_joint l) (map (moved_number m.scopes) p.site.setting.heads)) number
             ∙ any_map (moved_number m.scopes) (is_of_body of_joint (m.nodes + node r.0)) p.site.setting.heads
             ∙ any_same (λ f. is_of_body of_joint (m.nodes + node r.0) (moved_number m.scopes f)) (is_of_body of_module n) p.site.setting.heads

@@ -87,11 +87,12 @@ found_there t ps n (Some q) f e = (q, (find_first t ps q f).among, some_one (nod
 binder_there : (ps : List Place) (x : Text) (cs : List ℕ) (n : ℕ) → private_binder same_name ps x cs ≡ Some n → (q : Place) × In q ps × (node q ≡ n)
 unfolding private_binder
 binder_there ps x [] n e = none_some n e
-binder_there ps x (c ∷ cs) n e = go (node_of (find (declares_private_name same_name x c) ps)) refl e
+binder_there ps x (c ∷ cs) n e = go (node_of (find (declares_private_name same_name x c) ps)) refl (binder_there ps x cs n) e
   where
-    go : (o : Option ℕ) → node_of (find (declares_private_name same_name x c) ps) ≡ o → elim o as (λ _. Option ℕ) [ Some k ↦ Some k | None ↦ private_binder same_name ps x cs ] ≡ Some n → (q : Place) × In q ps × (node q ≡ n)
-    go None f e = binder_there ps x cs n e
-    go (Some k) f e = found_there (declares_private_name same_name x c) ps n (find (declares_private_name same_name x c) ps) refl (f ∙ e)
+    go : (o : Option ℕ) → node_of (find (declares_private_name same_name x c) ps) ≡ o → (private_binder same_name ps x cs ≡ Some n → (q : Place) × In q ps × (node q ≡ n))
+        → elim o as (λ _. Option ℕ) [ Some k ↦ Some k | None ↦ private_binder same_name ps x cs ] ≡ Some n → (q : Place) × In q ps × (node q ≡ n)
+    go None f outer e = outer e
+    go (Some k) f outer e = found_there (declares_private_name same_name x c) ps n (find (declares_private_name same_name x c) ps) refl (f ∙ e)
 
 private_names_tell : Tells (λ ps p. private_binding same_name ps p)
 unfolding private_binding

@@ -6,7 +6,7 @@ use Rattle.bundle_rules.proofs.BundlePlaces.{moves_at, new}
 use Rattle.bundle_rules.proofs.ClassesLie.{Below, bodies_rise, classes_in, classes_lie}
 use Rattle.bundle_rules.proofs.KeptApart.{Src, bare_part, ds, joint, old, src, whole}
 use Rattle.bundle_rules.proofs.NewNamesApart.{Part}
-use Rattle.bundle_rules.proofs.TaggedPlaces.{Tagged, same_tagged, tag}
+use Rattle.bundle_rules.proofs.TaggedPlaces.{Tagged, same_tagged}
 use Rattle.bundle_rules.specs.Bundles.{AreParts, modules_of}
 use Rattle.bundle_rules.specs.Moves.{IsBare, Moves, no_moves}
 use Rattle.bundle_rules.specs.NewNames.{name_given}
@@ -14,7 +14,6 @@ use Rattle.list_laws.proofs.FirstOf.{find_map, find_same}
 use Rattle.list_laws.proofs.Members.{In}
 use Rattle.list_laws.proofs.Tests.{tests_agree}
 use Rattle.scope_rules.proofs.PlacesRise.{site_in}
-use Rattle.scope_rules.proofs.SameNames.{same_name_tells}
 use Rattle.scope_rules.specs.Bindings.{binding, node_of, same_name}
 use Rattle.scope_rules.specs.Open.{all_open}
 use Rattle.scope_rules.specs.PrivateNames.{declares_private, declares_private_name, is_innermost, is_member_key, private_binder, private_binding, private_bindings}
@@ -112,9 +111,6 @@ module _ (ts us : List Tree) (given : List Text) (a : AreParts (modules_of ts) [
   binder_same k d x (c ∷ cs) e b =
       ap₂ (λ (o r : Option ℕ). elim o as (λ _. Option ℕ) [ Some n ↦ Some n | None ↦ r ]) first (binder_same k d x cs e b.1)
     where
-      renamed : Option (Named Tagged) → Option Place
-      renamed o = elim o [ None ↦ None | Some y ↦ Some (under called y) ]
-
       same_node : (o : Option (Named Tagged)) → node_of (elim o as (λ _. Option Place) [ None ↦ None | Some y ↦ Some (under called y) ]) ≡ node_of o
       same_node None = refl
       same_node (Some y) = refl
