@@ -19,7 +19,10 @@ const NEEDED: [(&str, &str); 15] = [
         "",
     ),
     ("\"type\":\"VariableDeclarator\",", ""),
-    ("\"id\":{\"type\":\"Identifier\",\"start\":4,\"end\":5,\"name\":\"x\"},", ""),
+    (
+        "\"id\":{\"type\":\"Identifier\",\"start\":4,\"end\":5,\"name\":\"x\"},",
+        "",
+    ),
     ("\"type\":\"Identifier\",", ""),
     (",\"name\":\"x\"", ""),
     ("\"type\":\"Literal\",", ""),
