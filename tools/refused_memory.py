@@ -1,13 +1,13 @@
 #!/usr/bin/env python3
 """Runs the built program, or a crate's tests, with one allocation after the other refused, and prints how they end.
 
-    tools/refused_memory.py PROGRAM [FILE..]
+    tools/refused_memory.py PROGRAM [--words TEXT] [FILE..]
 
-PROGRAM is crates/mangle/out/mangle, which `./mangle` builds. It is run on each file, examples/*.json if none is given,
-once with nothing refused, and then for N from 1 on, until it asks for fewer than N times: with the Nth time that it asks
-refused alone, and with that one and all after it. A run must end as the first one did, or with status 10, its message,
-and nothing on standard output; any other end is printed, and the exit status is 1. A few lines of C stand between the
-program and malloc; `cc` translates them.
+PROGRAM is crates/mangle/out/mangle, which `./mangle` builds. It is run with the words of TEXT on each file,
+examples/*.json if none is given, once with nothing refused, and then for N from 1 on, until it asks for memory fewer than
+N times: with the Nth time refused alone, and with that one and all after it. A run must end as the first one did, or with
+status 10, its message, and nothing on standard output; any other end is printed, and the exit status is 1. A few lines of
+C stand between the program and malloc; `cc` translates them.
 
     tools/refused_memory.py --tests CRATE [--to N]
 
@@ -56,30 +56,30 @@ void *realloc(void *place, size_t size) { return is_refused() ? 0 : __libc_reall
 WANTED = (10, b"", b"mangle: out of memory\n")
 
 
-def end_of(program, library, text, first, onwards):
+def end_of(command, library, text, first, onwards):
     """How a run ends: status, standard output and standard error; and whether anything was refused."""
     reading, writing = os.pipe()
     told = {"LD_PRELOAD": str(library), "REFUSED": str(first), "ONWARDS": str(int(onwards)), "PIPE_END": str(writing)}
-    run = subprocess.run([program], input=text, capture_output=True, env=told, pass_fds=[writing], timeout=60)
+    run = subprocess.run(command, input=text, capture_output=True, env=told, pass_fds=[writing], timeout=60)
     os.close(writing)
     refused = os.read(reading, 1) != b""
     os.close(reading)
     return (run.returncode, run.stdout, run.stderr), refused
 
 
-def try_program(program, files):
+def try_program(command, files):
     faults = 0
     with tempfile.TemporaryDirectory() as folder:
         library = pathlib.Path(folder) / "refusing.so"
         subprocess.run(["cc", "-shared", "-fPIC", "-x", "c", "-o", library, "-"], input=REFUSING.encode(), check=True)
         for file in files:
             text = file.read_bytes()
-            answer, _ = end_of(program, library, text, 0, False)
+            answer, _ = end_of(command, library, text, 0, False)
             for onwards in False, True:
                 ends, number, refused = collections.Counter(), 0, True
                 while True:
                     number += 1
-                    end, refused = end_of(program, library, text, number, onwards)
+                    end, refused = end_of(command, library, text, number, onwards)
                     if not refused:
                         break
                     word = "wanted memory" if end == WANTED else "answered" if end == answer else "ended otherwise"
@@ -131,14 +131,16 @@ def main():
     reader = argparse.ArgumentParser(description=__doc__.splitlines()[0])
     reader.add_argument("--tests", metavar="CRATE")
     reader.add_argument("--to", type=int, metavar="N")
+    reader.add_argument("--words", default="", metavar="TEXT")
     reader.add_argument("program", type=pathlib.Path, nargs="?")
     reader.add_argument("files", type=pathlib.Path, nargs="*")
-    words = reader.parse_args()
+    words = reader.parse_intermixed_args()
     if words.tests:
         return try_tests(words.tests, words.to)
     if not words.program:
         reader.error("a program, or --tests and a crate")
-    return try_program(words.program.resolve(), words.files or sorted((ROOT / "examples").glob("*.json")))
+    command = [words.program.resolve(), *words.words.split()]
+    return try_program(command, words.files or sorted((ROOT / "examples").glob("*.json")))
 
 
 if __name__ == "__main__":
