@@ -1,5 +1,6 @@
 -- `restore` undoes `map`.
 use Rattle.std.proofs.Common.{◌≡◌, ℕ, ◌<◌, ◌≤◌, ◌^◌, List, length, Some, refl, sym, ap, ap₂, ◌∙◌, subst, arith}
+use Rattle.std.specs.Io.KnownBytes.{Appends}
 use Rattle.json_reading.specs.Parsed.{parsed_as}
 use Rattle.json_reading.specs.Readable.{HasNoLone, nesting}
 use Rattle.json_text.specs.Grammar.{Reads}
@@ -17,7 +18,7 @@ use Rattle.tool_commands.proofs.MappedTexts.{mapped_alone, mapped_reads}
 use Rattle.tool_commands.specs.Map.{IsMapText}
 use Rattle.tool_commands.specs.Mapped.{Mapped, mapped, mapped_in, mapped_text, mapped_value}
 use Rattle.tool_commands.specs.Restore.{IsMappedInput, IsRestored}
-use Rattle.tool_commands.specs.Undone.{CanBeReadAgain, IsUndoneTo, MapTextsAreJson, MapsAreUndone}
+use Rattle.tool_commands.specs.Undone.{CanBeReadAgain, IsPipedBackTo, IsUndoneTo, MapTextsAreJson, MapsAreUndone, PipedMapsAreUndone}
 use Rattle.tool_outside.specs.declared.carry_out.TheConstants.{INPUT_LIMIT}
 use Rattle.tree_core.specs.Values.{meaning_of}
 use Rattle.tree_nodes.proofs.Cases.{some_same}
@@ -63,6 +64,18 @@ module _ (o : Options) (t : Tree) (text : List ℕ) (a : IsMapText o t text) whe
 
 pub maps_are_undone : MapsAreUndone
 maps_are_undone s input text map c = undone _ map.answer.tree text map.answer.answer c
+
+piped_back : (t : Tree) (text : List ℕ) → CanBeReadAgain text → IsUndoneTo t text → IsPipedBackTo t text
+piped_back t text c u = record {
+  answerable = (c.short, u.restorable);
+  written = λ left_new given_old given_new held_old held_new d.
+      subst (Appends held_old held_new) (u.alone d.answer.text (subst (λ (x : List ℕ). IsRestored x d.answer.text) d.read.all d.answer.is_text)) d.answer.written;
+}
+
+pub piped_maps_are_undone : PipedMapsAreUndone
+piped_maps_are_undone s left_old left_new given_old given_new held_old held_new map c =
+    let by = map.answer.is_text in
+    piped_back by.answer.tree map.answer.text c (maps_are_undone s map.input map.answer.text by c)
 
 pub map_texts_are_json : MapTextsAreJson
 map_texts_are_json s input text map =
