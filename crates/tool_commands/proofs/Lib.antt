@@ -8,3 +8,8 @@ pub mod MapAnswers
 -- words, and what is read and written by them
 pub mod Commands
 pub mod Ends
+-- what is read again
+pub mod MappedTexts
+pub mod MapValues
+pub mod MappedRead
+pub mod UndoneMaps

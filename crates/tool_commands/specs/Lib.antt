@@ -6,3 +6,4 @@ pub mod Report
 pub mod Restore
 pub mod Status
 pub mod Tool
+pub mod Undone

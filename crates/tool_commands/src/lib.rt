@@ -2,6 +2,7 @@
 #![tactic(auto)]
 
 mod command;
+mod laws;
 mod map_answer;
 mod mapped_text;
 mod members;
@@ -14,4 +15,5 @@ pub mod run_tool;
 pub mod tool_status;
 
 pub use command::{ToolWork, read_tool_words};
+pub use laws::{map_texts_are_json, maps_are_undone, piped_maps_are_undone};
 pub use refusal::Refusal;
