@@ -84,7 +84,12 @@ fn programs_have_their_lines(rt: HostRuntime) -> Result<(), Fail> {
             "2:2 unused x\n3:3 fault-1 x\n",
         ),
         // columns are UTF-16 code units, of which the first character has two
-        (REFERENCE, "\"\\\"😀é\\\"; (0, y)\"", done, "1:12 unresolved y\n"),
+        (
+            REFERENCE,
+            "\"\\\"😀é\\\"; (0, y)\"",
+            done,
+            "1:12 unresolved y\n",
+        ),
         // the end of the text, one past it, within a character
         (REFERENCE, "\"0123456789abcd\"", done, "1:15 unresolved y\n"),
         (REFERENCE, "\"0123456789abc\"", ToolStatus::BadSpan, ""),
@@ -98,10 +103,7 @@ fn programs_have_their_lines(rt: HostRuntime) -> Result<(), Fail> {
         (EMPTY, "\"\",\"more\":0", bad_tree, ""),
     ] {
         let (ended, text) = reported(rt.alloc(), source, tree)?;
-        assert!(rt;
-            ended == status && text.as_str() == wanted,
-            "{source}"
-        );
+        assert!(rt; ended == status && text.as_str() == wanted, "{source}");
     }
     Ok(())
 }
