@@ -64,7 +64,9 @@ fn names_for(rt: &HostRuntime, program: &Program) -> Option<NewNames>
         AllByRecursion (λ s. IsTrue (is_identifier_name (string_bytes s))) given.names.items) }
 {
     let start = now(rt)?;
-    let tables = ScopeTables::build(rt.alloc(), program.root()).ok()?;
+    let Ok(tables) = ScopeTables::build(rt.alloc(), program.root()) else {
+        return None;
+    };
     if tables.has_fault() || tables.list.places.len() > MOST_PLACES {
         return None;
     }
