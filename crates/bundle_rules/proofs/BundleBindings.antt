@@ -3,15 +3,17 @@ use Rattle.std.proofs.Common.{◌≡◌, ℕ, suc, ◌+◌, List, [], ◌∷◌,
 use Rattle.std.proofs.lemmas.List.{map-append}
 use Rattle.std.specs.List.{AllByRecursion}
 use Rattle.bundle_rules.proofs.BundlePlaces.{moves_at, tagged}
-use Rattle.bundle_rules.proofs.KeptApart.{binding_at, bindings_kept, joint}
+use Rattle.bundle_rules.proofs.KeptApart.{binding_at, bindings_kept, joint, new_names, private_binding_at}
 use Rattle.bundle_rules.proofs.NewNamesApart.{Part, parts}
+use Rattle.bundle_rules.proofs.PrivateKept.{private_kept}
 use Rattle.bundle_rules.proofs.TaggedPlaces.{Tagged, moved_node, same_tagged, tag}
 use Rattle.bundle_rules.specs.Bundles.{AreParts, modules_of}
-use Rattle.bundle_rules.specs.Laws.{BundlesKeepBindings, all_moved, bindings_moved}
+use Rattle.bundle_rules.specs.Laws.{BundlesKeepBindings, BundlesKeepPrivateNames, all_moved, bindings_moved}
 use Rattle.bundle_rules.specs.Mentions.{mentions_of}
 use Rattle.bundle_rules.specs.Moves.{IsBare, Moves, moves_after, no_moves}
 use Rattle.bundle_rules.specs.NewNames.{Modules}
 use Rattle.scope_rules.specs.Bindings.{binding, bindings, same_name}
+use Rattle.scope_rules.specs.PrivateNames.{private_binding, private_bindings}
 use Rattle.tree_nodes.specs.Tree.{Text, Tree, alone}
 use Rattle.tree_places.specs.Places.{Named, Place, places}
 
@@ -58,3 +60,20 @@ all_bound ts us given a bare =
 pub bundles_keep_bindings : BundlesKeepBindings
 bundles_keep_bindings ts w bare b =
     ap (λ (t : Tree). bindings same_name (places (alone t))) b.3 ∙ bindings_kept ts b.0 b.1 b.2 bare ∙ all_bound ts b.0 b.1 b.2 bare
+
+-- ---- private names
+
+each_private : (ps : List Place) → private_bindings same_name ps ≡ map (private_binding same_name ps) ps
+unfolding private_bindings
+each_private ps = refl
+
+all_private : (ts us : List Tree) (given : List Text) (a : AreParts (modules_of ts) [] [] ts us given) (bare : AllByRecursion IsBare ts) → private_bindings same_tagged (joint ts us given a bare) ≡ all_moved (private_bindings same_name) no_moves ts
+unfolding private_bindings
+all_private ts us given a bare =
+    each_part (λ ps q. private_binding same_name ps q) (private_binding same_tagged (joint ts us given a bare)) 0 no_moves (parts (modules_of ts) [] [] ts us given a) (private_binding_at ts us given a bare)
+    ∙ told_moved (λ ps q. private_binding same_name ps q) (private_bindings same_name) each_private no_moves (modules_of ts) [] [] ts us given a
+
+pub bundles_keep_private_names : BundlesKeepPrivateNames
+bundles_keep_private_names ts w bare b =
+    ap (λ (t : Tree). private_bindings same_name (places (alone t))) b.3
+    ∙ ap (private_bindings same_name) (sym (new_names ts b.0 b.1 b.2 bare)) ∙ private_kept ts b.0 b.1 b.2 bare ∙ all_private ts b.0 b.1 b.2 bare

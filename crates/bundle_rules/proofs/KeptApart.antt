@@ -34,7 +34,7 @@ use Rattle.tree_places.specs.Scopes.{Scope, is_inside, same_scope}
 -- ---- a module among the others
 
 -- tags rise
-tags_from : (i : ℕ) (m : Moves) (ds : List Part) (q : Named Tagged) → In q (tagged i m ds) → i ≤ q.name.0
+pub tags_from : (i : ℕ) (m : Moves) (ds : List Part) (q : Named Tagged) → In q (tagged i m ds) → i ≤ q.name.0
 tags_from i m ds q h = let s = source i m ds q h in subst (λ (p : Named Tagged). i ≤ p.name.0) (sym s.is) (omega arith)
 
 before_more : (i k : ℕ) (m : Moves) (ps : List Place) (front : List (Named Tagged)) → ((q : Named Tagged) → In q front → nat_eq q.name.0 (suc i + k) ≡ false)
@@ -45,14 +45,14 @@ before_more i k m ps front h q j = go (from_append (map (tag i m) ps) front q j)
     go (inl o) = let f = from_map (tag i m) ps q o in ne_eqb q.name.0 (i + suc k) (λ e. let g : i ≡ q.name.0 = ap (λ (r : Named Tagged). r.name.0) f.2 in omega (arith, e, g))
     go (inr o) = ap (nat_eq q.name.0) (omega arith) ∙ h q o
 
-record Split (i : ℕ) (m : Moves) (ds : List Part) (k : ℕ) (d : Part) : Type 0 where
-  front : List (Named Tagged)
-  back : List (Named Tagged)
-  is : tagged i m ds ≡ front ++ (map (tag (i + k) (moves_at m ds k)) (places (alone d.tree)) ++ back)
-  before : (q : Named Tagged) → In q front → nat_eq q.name.0 (i + k) ≡ false
-  after : (q : Named Tagged) → In q back → nat_eq q.name.0 (i + k) ≡ false
+pub record Split (i : ℕ) (m : Moves) (ds : List Part) (k : ℕ) (d : Part) : Type 0 where
+  pub front : List (Named Tagged)
+  pub back : List (Named Tagged)
+  pub is : tagged i m ds ≡ front ++ (map (tag (i + k) (moves_at m ds k)) (places (alone d.tree)) ++ back)
+  pub before : (q : Named Tagged) → In q front → nat_eq q.name.0 (i + k) ≡ false
+  pub after : (q : Named Tagged) → In q back → nat_eq q.name.0 (i + k) ≡ false
 
-split : (i : ℕ) (m : Moves) (ds : List Part) (k : ℕ) (d : Part) → slice_get ds k ≡ Some d → Split i m ds k d
+pub split : (i : ℕ) (m : Moves) (ds : List Part) (k : ℕ) (d : Part) → slice_get ds k ≡ Some d → Split i m ds k d
 split i m [] k d e = none_some d e
 split i m (f ∷ ds) zero d e =
     let same : f ≡ d = some_one f d e in
@@ -112,13 +112,13 @@ root_back d (n ∷ []) e = refl
 root_back d (n ∷ m ∷ s) e = absurd (cc)
 
 module _ (ts us : List Tree) (given : List Text) (a : AreParts (modules_of ts) [] [] ts us given) (bare : AllByRecursion IsBare ts) where
-  abbrev ds : List Part
+  abbrev pub ds : List Part
   ds = parts (modules_of ts) [] [] ts us given a
 
   abbrev pub joint : List (Named Tagged)
   joint = tagged 0 no_moves ds
 
-  abbrev whole : List Place
+  abbrev pub whole : List Place
   whole = places (alone (joined us))
 
   is_final : whole ≡ final no_moves ds
@@ -130,23 +130,23 @@ module _ (ts us : List Tree) (given : List Text) (a : AreParts (modules_of ts) [
   pub new_names : all_under (new whole) joint ≡ whole
   new_names = under_new ds whole whole_rises is_final
 
-  rises : RiseFrom 0 (map node joint)
+  pub rises : RiseFrom 0 (map node joint)
   rises = subst (RiseFrom 0) (ap (λ (ps : List Place). map node ps) (sym new_names) ∙ nodes_under (new whole) joint) whole_rises
 
   -- ---- a place and its module
 
-  abbrev old : Part → List Place
+  abbrev pub old : Part → List Place
   old d = places (alone d.tree)
 
-  record Src (p : Named Tagged) : Type 0 where
-    k : ℕ
-    part : Part
-    place : Place
-    at : slice_get ds k ≡ Some part
-    among : In place (old part)
-    is : p ≡ tag (0 + k) (moves_at no_moves ds k) place
-    named : new whole p ≡ or_own (name_given part.needing part.xs (binding same_name (old part) place)) place.name
-    bound : binding same_tagged joint p ≡ moved_node (moves_at no_moves ds k) (binding same_name (old part) place)
+  pub record Src (p : Named Tagged) : Type 0 where
+    pub k : ℕ
+    pub part : Part
+    pub place : Place
+    pub at : slice_get ds k ≡ Some part
+    pub among : In place (old part)
+    pub is : p ≡ tag (0 + k) (moves_at no_moves ds k) place
+    pub named : new whole p ≡ or_own (name_given part.needing part.xs (binding same_name (old part) place)) place.name
+    pub bound : binding same_tagged joint p ≡ moved_node (moves_at no_moves ds k) (binding same_name (old part) place)
 
   pub binding_at : (k : ℕ) (d : Part) (q : Place) → slice_get ds k ≡ Some d
       → binding same_tagged joint (tag (0 + k) (moves_at no_moves ds k) q) ≡ moved_node (moves_at no_moves ds k) (binding same_name (old d) q)
@@ -162,7 +162,7 @@ module _ (ts us : List Tree) (given : List Text) (a : AreParts (modules_of ts) [
       subst (λ (js : List (Named Tagged)). private_binding same_tagged js (tag (0 + k) (moves_at no_moves ds k) q) ≡ moved_node (moves_at no_moves ds k) (private_binding same_name (old d) q)) (sym s.is)
       (private_binding_moved (0 + k) (moves_at no_moves ds k) (old d) s.front s.back s.before s.after q)
 
-  src : (p : Named Tagged) → In p joint → Src p
+  pub src : (p : Named Tagged) → In p joint → Src p
   src p i =
       let s = source 0 no_moves ds p i in
       let m = moves_at no_moves ds s.k in
@@ -178,10 +178,10 @@ module _ (ts us : List Tree) (given : List Text) (a : AreParts (modules_of ts) [
         bound = ap (binding same_tagged joint) s.is ∙ binding_at s.k s.part s.place s.at;
       }
 
-  tree_of_part : (k : ℕ) (d : Part) → slice_get ds k ≡ Some d → In d.tree ts
+  pub tree_of_part : (k : ℕ) (d : Part) → slice_get ds k ≡ Some d → In d.tree ts
   tree_of_part k d e = part_in (modules_of ts) [] [] ts us given a k d e
 
-  bare_part : (k : ℕ) (d : Part) → slice_get ds k ≡ Some d → IsBare d.tree
+  pub bare_part : (k : ℕ) (d : Part) → slice_get ds k ≡ Some d → IsBare d.tree
   bare_part k d e = bare_each ts bare d.tree (tree_of_part k d e)
 
   mention_in : (d : Part) (q : Place) → In q (old d) → In (mention q (binding same_name (old d) q)) (mentions_of d.tree)

@@ -10,5 +10,9 @@ pub mod BundlePlaces
 pub mod BundleScopes
 -- bindings under the new names
 pub mod KeptApart
+pub mod ClassesLie
+pub mod PrivateKept
 pub mod BundleBindings
+pub mod JointFaults
+pub mod BundleFaults
 pub mod NodesLie

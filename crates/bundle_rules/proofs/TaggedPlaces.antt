@@ -39,7 +39,7 @@ tag i m p = record { site = moved_site m p.site; name = (i, p.name) }
 
 -- ---- scopes that are moved are the same where they were
 
-number_once : (d n k : ℕ) → moved_number d n ≡ moved_number d k → n ≡ k
+pub number_once : (d n k : ℕ) → moved_number d n ≡ moved_number d k → n ≡ k
 number_once d zero zero e = refl
 number_once d zero (suc k) e = absurd (omega (arith, e))
 number_once d (suc n) zero e = absurd (omega (arith, e))
@@ -119,7 +119,7 @@ module _ (i : ℕ) (m : Moves) (ps : List Place) (front back : List (Named Tagge
   named_here : (x y : Text) → same_tagged (i, x) (i, y) ≡ same_name x y
   named_here x y = ap (λ (b : Bool). b && same_name x y) (eq-eqb i i refl)
 
-  at_home_moved : (x : Text) (h : Scope) (p : Place) → at_home same_tagged (i, x) (moved_scope m.scopes h) (tag i m p) ≡ at_home same_name x h p
+  pub at_home_moved : (x : Text) (h : Scope) (p : Place) → at_home same_tagged (i, x) (moved_scope m.scopes h) (tag i m p) ≡ at_home same_name x h p
   unfolding all_open
   at_home_moved x h p = ap₂ (λ (a b : Bool). a && b) (ap (λ (s : Scope). same_scope s (moved_scope m.scopes h)) (home_moved m p.site) ∙ same_moved m.scopes (home p.site) h) (named_here p.name x)
 

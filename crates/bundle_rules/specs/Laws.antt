@@ -1,10 +1,12 @@
 -- The laws on joined modules.
-use Rattle.std.specs.Prelude.{◌≡◌, ◌<◌, ◌≤◌, IfSome, ⊤, ℕ, ◌+◌, List, [], ◌∷◌, ◌++◌, map, Option, option_map}
+use Rattle.std.specs.Prelude.{◌≡◌, ◌<◌, ◌≤◌, IfSome, IsFalse, ⊤, ℕ, ◌+◌, List, [], ◌∷◌, ◌++◌, map, Option, option_map}
 use Rattle.std.specs.List.{AllByRecursion}
 use Rattle.bundle_rules.specs.Bundles.{IsBundle}
 use Rattle.bundle_rules.specs.Joined.{body}
 use Rattle.bundle_rules.specs.Moves.{IsBare, Moves, moves_after, no_moves}
 use Rattle.scope_rules.specs.Bindings.{bindings, same_name}
+use Rattle.scope_rules.specs.Faults.{has_fault}
+use Rattle.scope_rules.specs.PrivateNames.{private_bindings}
 use Rattle.tree_nodes.specs.NodeCount.{nodes_in}
 use Rattle.tree_nodes.specs.Tree.{Tree, alone}
 use Rattle.tree_places.specs.Places.{Place, places}
@@ -22,15 +24,26 @@ all_moved bound m (t ∷ ts) = bindings_moved m (bound (places (alone t))) ++ al
 abbrev pub BundlesKeepBindings : Type 0
 BundlesKeepBindings = (ts : List Tree) (w : Tree) → AllByRecursion IsBare ts → IsBundle ts w → bindings same_name (places (alone w)) ≡ all_moved (bindings same_name) no_moves ts
 
+-- the same of private names
+abbrev pub BundlesKeepPrivateNames : Type 0
+BundlesKeepPrivateNames = (ts : List Tree) (w : Tree) → AllByRecursion IsBare ts → IsBundle ts w → private_bindings same_name (places (alone w)) ≡ all_moved (private_bindings same_name) no_moves ts
+
+abbrev pub AreFaultless : List Tree → Type 0
+AreFaultless ts = AllByRecursion (λ t. IsFalse (has_fault same_name (places (alone t)))) ts
+
+-- modules without a fault have none together
+abbrev pub BundlesHaveNoFault : Type 0
+BundlesHaveNoFault = (ts : List Tree) (w : Tree) → AllByRecursion IsBare ts → AreFaultless ts → IsBundle ts w → IsFalse (has_fault same_name (places (alone w)))
+
 -- bindings among nodes past the first ones, so many
 abbrev pub LieWithin : ℕ → ℕ → List (Option ℕ) → Type 0
 LieWithin first many bs = AllByRecursion (λ b. IfSome b (λ n. (first < n) × (n ≤ first + many))) bs
 
 -- those of each module are among its own nodes, which come after those of the modules before
-abbrev pub AreApart : Moves → List Tree → Type 0
-AreApart m [] = ⊤
-AreApart m (t ∷ ts) = LieWithin m.nodes (nodes_in (body t)) (bindings_moved m (bindings same_name (places (alone t)))) × AreApart (moves_after m t) ts
+abbrev pub AreApart : (List Place → List (Option ℕ)) → Moves → List Tree → Type 0
+AreApart bound m [] = ⊤
+AreApart bound m (t ∷ ts) = LieWithin m.nodes (nodes_in (body t)) (bindings_moved m (bound (places (alone t)))) × AreApart bound (moves_after m t) ts
 
--- so no two modules have places of one binding
+-- so no two modules have places of one binding, nor of one private name's
 abbrev pub ModulesShareNoBinding : Type 0
-ModulesShareNoBinding = (ts : List Tree) → AllByRecursion IsBare ts → AreApart no_moves ts
+ModulesShareNoBinding = (ts : List Tree) → AllByRecursion IsBare ts → AreApart (bindings same_name) no_moves ts × AreApart (private_bindings same_name) no_moves ts

@@ -5,4 +5,7 @@
 
 mod laws;
 
-pub use laws::{bundles_keep_bindings, joining_moves_places, modules_share_no_binding};
+pub use laws::{
+    bundles_have_no_fault, bundles_keep_bindings, bundles_keep_private_names, joining_moves_places,
+    modules_share_no_binding,
+};

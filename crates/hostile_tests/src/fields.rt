@@ -2,9 +2,22 @@
 //!
 //! In a row `#` stands for one field's value, in a node of the kind, and what stands beside the row is taken there.
 
-use crate::trees::{is_tree, statement};
+use crate::trees::{MODULE, NOTHING, STATEMENT, is_tree};
 use std::alloc::{AllocError, Global};
 use std::test::Fail;
+
+const PROGRAMS: [(&str, &str); 4] = [
+    ("{'type':'Program','body':#,'sourceType':'module'}", "[]"),
+    ("{'type':'Program','body':[],'sourceType':#}", "'commonjs'"),
+    (
+        "{'type':'Program','body':[],'sourceType':'script','hashbang':#}",
+        "null",
+    ),
+    (
+        "{'type':'Program','body':[],'sourceType':'script','hashbang':{'type':'Hashbang','value':#}}",
+        "'x'",
+    ),
+];
 
 const STATEMENTS: [(&str, &str); 24] = [
     (
@@ -248,66 +261,76 @@ const LEAVES: [(&str, &str); 10] = [
     ("{'type':'Literal','value':1,'raw':#}", "null"),
 ];
 
-// What is put for `#`, and whether the row is then a tree: the value that is taken alone, beside fields that are
-// ignored, unknown or doubled, of which the last one counts; and two values that no field takes.
-fn is_judged(alloc: Global, row: &str, value: &str) -> Result<bool, AllocError> {
+// What is put for `#` in a row, and whether that is then a tree: the value that is taken alone, beside fields that
+// are ignored, unknown or doubled, of which the last one counts; and two values that no field takes.
+fn is_judged(alloc: Global, around: &str, row: &str, value: &str) -> Result<bool, AllocError> {
     let beside_nothing = format!(in alloc; "{value},'loc':null")?;
     let beside_content = format!(in alloc; "{value},'loc':{{}}")?;
     let doubled = format!(in alloc; "{value},'start':-1,'start':0")?;
     let doubled_badly = format!(in alloc; "{value},'start':0,'start':-1")?;
     Ok(
-        is_tree(alloc, row, value)?
-            && is_tree(alloc, row, beside_nothing.as_str())?
-            && !is_tree(alloc, row, beside_content.as_str())?
-            && is_tree(alloc, row, doubled.as_str())?
-            && !is_tree(alloc, row, doubled_badly.as_str())?
-            && !is_tree(alloc, row, "-1")?
-            && !is_tree(alloc, row, "{'type':'Nothing'}")?,
+        is_tree(alloc, around, row, value)?
+            && is_tree(alloc, around, row, beside_nothing.as_str())?
+            && !is_tree(alloc, around, row, beside_content.as_str())?
+            && is_tree(alloc, around, row, doubled.as_str())?
+            && !is_tree(alloc, around, row, doubled_badly.as_str())?
+            && !is_tree(alloc, around, row, "-1")?
+            && !is_tree(alloc, around, row, "{'type':'Nothing'}")?,
     )
 }
 
-// The same of an expression.
-fn is_judged_inside(alloc: Global, expression: &str, value: &str) -> Result<bool, AllocError> {
-    let row = statement(alloc, expression)?;
-    is_judged(alloc, row.as_str(), value)
+// The first row that is judged otherwise.
+fn misjudged<'r>(
+    alloc: Global,
+    around: &str,
+    rows: &[(&'r str, &'r str)],
+) -> Result<Option<&'r str>, AllocError> {
+    for (row, value) in rows {
+        if !is_judged(alloc, around, row, value)? {
+            return Ok(Some(*row));
+        }
+    }
+    Ok(None)
+}
+
+#[test]
+fn programs(rt: HostRuntime) -> Result<(), Fail> {
+    let row = misjudged(rt.alloc(), NOTHING, &PROGRAMS)?;
+    assert!(rt; row.is_none(), "{row:?}");
+    Ok(())
 }
 
 #[test]
 fn statements(rt: HostRuntime) -> Result<(), Fail> {
-    for (row, value) in STATEMENTS {
-        assert!(rt; is_judged(rt.alloc(), row, value)?, "{row}");
-    }
+    let row = misjudged(rt.alloc(), MODULE, &STATEMENTS)?;
+    assert!(rt; row.is_none(), "{row:?}");
     Ok(())
 }
 
 #[test]
 fn class_members(rt: HostRuntime) -> Result<(), Fail> {
-    for (row, value) in CLASS_MEMBERS {
-        assert!(rt; is_judged(rt.alloc(), row, value)?, "{row}");
-    }
+    let row = misjudged(rt.alloc(), MODULE, &CLASS_MEMBERS)?;
+    assert!(rt; row.is_none(), "{row:?}");
     Ok(())
 }
 
 #[test]
 fn exchanges(rt: HostRuntime) -> Result<(), Fail> {
-    for (row, value) in EXCHANGES {
-        assert!(rt; is_judged(rt.alloc(), row, value)?, "{row}");
-    }
+    let row = misjudged(rt.alloc(), MODULE, &EXCHANGES)?;
+    assert!(rt; row.is_none(), "{row:?}");
     Ok(())
 }
 
 #[test]
 fn expressions(rt: HostRuntime) -> Result<(), Fail> {
-    for (row, value) in EXPRESSIONS {
-        assert!(rt; is_judged_inside(rt.alloc(), row, value)?, "{row}");
-    }
+    let row = misjudged(rt.alloc(), STATEMENT, &EXPRESSIONS)?;
+    assert!(rt; row.is_none(), "{row:?}");
     Ok(())
 }
 
 #[test]
 fn leaves(rt: HostRuntime) -> Result<(), Fail> {
-    for (row, value) in LEAVES {
-        assert!(rt; is_judged_inside(rt.alloc(), row, value)?, "{row}");
-    }
+    let row = misjudged(rt.alloc(), STATEMENT, &LEAVES)?;
+    assert!(rt; row.is_none(), "{row:?}");
     Ok(())
 }

@@ -1,6 +1,6 @@
 //! Nodes where nodes of their kind may not stand, in the place of `#`.
 
-use crate::trees::{is_tree, statement};
+use crate::trees::{MODULE, STATEMENT, is_tree};
 use std::alloc::{AllocError, Global};
 use std::test::Fail;
 
@@ -68,6 +68,8 @@ const NO_TARGETS: [&str; 6] = [
     "{'type':'EmptyStatement'}",
 ];
 
+const EMPTY: &str = "{'type':'EmptyStatement'}";
+
 // Places for a statement in a list, and alone.
 const STATEMENT_PLACES: [&str; 3] = [
     "{'type':'BlockStatement','body':[#]}",
@@ -99,64 +101,77 @@ const NO_BODIES: [&str; 4] = [
 ];
 
 // Whether this place takes this node, and none of those.
-fn is_choosy(alloc: Global, place: &str, node: &str, others: &[&str]) -> Result<bool, AllocError> {
+fn is_choosy(
+    alloc: Global,
+    (around, place): (&str, &str),
+    node: &str,
+    others: &[&str],
+) -> Result<bool, AllocError> {
     for other in others {
-        if is_tree(alloc, place, other)? {
+        if is_tree(alloc, around, place, other)? {
             return Ok(false);
         }
     }
-    is_tree(alloc, place, node)
+    is_tree(alloc, around, place, node)
+}
+
+// The first of these places that takes another one than this node.
+fn unchoosy<'p>(
+    alloc: Global,
+    places: &[&'p str],
+    node: &str,
+    others: &[&str],
+) -> Result<Option<&'p str>, AllocError> {
+    for place in places {
+        if !is_choosy(alloc, (MODULE, place), node, others)? {
+            return Ok(Some(*place));
+        }
+    }
+    Ok(None)
 }
 
 #[test]
 fn places_of_expressions(rt: HostRuntime) -> Result<(), Fail> {
-    for place in EXPRESSION_PLACES {
-        assert!(rt;
-            is_choosy(rt.alloc(), place, "@", &NO_EXPRESSIONS)?,
-            "{place}"
-        );
-    }
+    let place = unchoosy(rt.alloc(), &EXPRESSION_PLACES, "@", &NO_EXPRESSIONS)?;
+    assert!(rt; place.is_none(), "{place:?}");
     Ok(())
 }
 
 #[test]
 fn places_of_patterns(rt: HostRuntime) -> Result<(), Fail> {
-    for place in PATTERN_PLACES {
-        assert!(rt; is_choosy(rt.alloc(), place, "@", &NO_PATTERNS)?, "{place}");
-    }
+    let place = unchoosy(rt.alloc(), &PATTERN_PLACES, "@", &NO_PATTERNS)?;
+    assert!(rt; place.is_none(), "{place:?}");
     Ok(())
 }
 
 #[test]
 fn places_of_targets(rt: HostRuntime) -> Result<(), Fail> {
-    for place in TARGET_PLACES {
-        assert!(rt; is_choosy(rt.alloc(), place, "@", &NO_TARGETS)?, "{place}");
-    }
+    let place = unchoosy(rt.alloc(), &TARGET_PLACES, "@", &NO_TARGETS)?;
+    assert!(rt; place.is_none(), "{place:?}");
     Ok(())
 }
 
 #[test]
 fn places_of_statements(rt: HostRuntime) -> Result<(), Fail> {
-    let empty = "{'type':'EmptyStatement'}";
-    for place in STATEMENT_PLACES {
-        assert!(rt;
-            is_choosy(rt.alloc(), place, empty, &NO_STATEMENTS)?,
-            "{place}"
-        );
-    }
-    for place in BODY_PLACES {
-        assert!(rt; is_choosy(rt.alloc(), place, empty, &NO_BODIES)?, "{place}");
-    }
+    let place = unchoosy(rt.alloc(), &STATEMENT_PLACES, EMPTY, &NO_STATEMENTS)?;
+    assert!(rt; place.is_none(), "{place:?}");
+    Ok(())
+}
+
+#[test]
+fn places_of_bodies(rt: HostRuntime) -> Result<(), Fail> {
+    let place = unchoosy(rt.alloc(), &BODY_PLACES, EMPTY, &NO_BODIES)?;
+    assert!(rt; place.is_none(), "{place:?}");
     Ok(())
 }
 
 // A private name stands on the left of `in` alone.
 #[test]
 fn places_of_private_names(rt: HostRuntime) -> Result<(), Fail> {
-    let place = statement(
-        rt.alloc(),
+    let place = (
+        STATEMENT,
         "{'type':'BinaryExpression','left':{'type':'PrivateIdentifier','name':'a'},'operator':#,'right':@}",
-    )?;
-    assert!(rt; is_choosy(rt.alloc(), place.as_str(), "'in'", &["'instanceof'", "'+'"])?);
+    );
+    assert!(rt; is_choosy(rt.alloc(), place, "'in'", &["'instanceof'", "'+'"])?);
     Ok(())
 }

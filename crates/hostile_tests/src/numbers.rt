@@ -1,6 +1,6 @@
 //! Numbers as offsets, as code units and as values of literals.
 
-use crate::trees::is_tree;
+use crate::trees::{MODULE, is_tree};
 use std::test::Fail;
 
 const OFFSET: &str = "{'type':'EmptyStatement','end':#}";
@@ -32,7 +32,7 @@ fn numbers_are_whole_and_have_bounds(rt: HostRuntime) -> Result<(), Fail> {
         (UNITS, "[0]", false),
     ] {
         assert!(rt;
-            is_tree(rt.alloc(), place, number)? == is_taken,
+            is_tree(rt.alloc(), MODULE, place, number)? == is_taken,
             "{number} in {place}"
         );
     }

@@ -1,4 +1,7 @@
-use bundle_rules::{bundles_keep_bindings, joining_moves_places, modules_share_no_binding};
+use bundle_rules::{
+    bundles_have_no_fault, bundles_keep_bindings, bundles_keep_private_names, joining_moves_places,
+    modules_share_no_binding,
+};
 use program_laws::{
     names_of_programs_separate, no_rival_of_a_program_uses_fewer, programs_are_rooted,
     programs_get_least_names, programs_keep_function_names_apart, programs_name_functions_once,
@@ -26,5 +29,7 @@ fn laws_hold_of_programs() {
 fn laws_hold_of_joined_modules() {
     joining_moves_places();
     bundles_keep_bindings();
+    bundles_keep_private_names();
+    bundles_have_no_fault();
     modules_share_no_binding();
 }

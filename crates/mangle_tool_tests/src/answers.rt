@@ -60,19 +60,6 @@ fn values_are_answered_alike(rt: HostRuntime) -> Result<(), Fail> {
     Ok(())
 }
 
-// Why the first bytes of the module have no answer, if they have none.
-fn error_of_beginning(alloc: Global, end: usize) -> Option<MangleError> {
-    usual_answer(alloc, LET_MODULE.as_bytes().get(..end)?).err()
-}
-
-#[test]
-fn beginnings_are_not_json(rt: HostRuntime) {
-    for end in 0..LET_MODULE.len() {
-        let error = error_of_beginning(rt.alloc(), end);
-        assert!(rt; error == Some(MangleError::NotJson), "of {end} bytes");
-    }
-}
-
 // Arrays in one another.
 fn nested(alloc: Global, levels: usize) -> Result<String, AllocError> {
     let mut text = "[".repeat(alloc, levels)?;

@@ -31,17 +31,20 @@ fn read(alloc: Global, source: &mut MemorySource<'_>) -> Result<Vec<u8>, ReadAll
     read_all(alloc, source, 100)
 }
 
-// The error of a first reading of `text` in pieces of 8 bytes, where this call fails, and what is read then.
-fn read_on(
-    alloc: Global,
-    text: &str,
-    call: u64,
-) -> Result<(Option<ReadAllError>, Vec<u8>), ReadAllError> {
+const LETTERS: &str = "abcdefghijklmnopqrst";
+
+// Whether reading the letters in pieces of 8 bytes, where this call fails, fails once if it is to, and this is read
+// then.
+fn is_read_on(alloc: Global, call: u64, failed: bool, rest: &str) -> Result<bool, ReadAllError> {
     let fails = [call];
-    let mut source = MemorySource::new(text.as_bytes(), 8, &fails);
+    let mut source = MemorySource::new(LETTERS.as_bytes(), 8, &fails);
     match read(alloc, &mut source) {
-        Ok(bytes) => Ok((None, bytes)),
-        Err(error) => Ok((Some(error), read(alloc, &mut source)?)),
+        Ok(bytes) => Ok(!failed && bytes.as_slice() == rest.as_bytes()),
+        Err(ReadAllError::Failed) => {
+            let bytes = read(alloc, &mut source)?;
+            Ok(failed && bytes.as_slice() == rest.as_bytes())
+        }
+        Err(error) => Err(error),
     }
 }
 
@@ -49,18 +52,13 @@ fn read_on(
 fn a_source_fails_in_the_listed_calls(rt: HostRuntime) -> Result<(), Fail> {
     // Three calls give 8, 8 and 4 bytes, and the fourth finds the end.
     for (call, failed, rest) in [
-        (0, true, "abcdefghijklmnopqrst"),
+        (0, true, LETTERS),
         (1, true, "ijklmnopqrst"),
         (2, true, "qrst"),
         (3, true, ""),
-        (4, false, "abcdefghijklmnopqrst"),
+        (4, false, LETTERS),
     ] {
-        let (error, bytes) = read_on(rt.alloc(), "abcdefghijklmnopqrst", call)?;
-        assert!(rt;
-            (error == Some(ReadAllError::Failed)) == failed,
-            "call {call}"
-        );
-        assert!(rt; bytes.as_slice() == rest.as_bytes(), "call {call}");
+        assert!(rt; is_read_on(rt.alloc(), call, failed, rest)?, "call {call}");
     }
     Ok(())
 }

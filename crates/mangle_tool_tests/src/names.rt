@@ -87,6 +87,7 @@ fn new_names(alloc: Global, source_type: &str, words: &str) -> Result<String, Ma
 fn one_scope_is_mangled(rt: HostRuntime) -> Result<(), Fail> {
     for (source_type, words, names) in [
         ("module", "call:e let:x=t", "e n t "),
+        ("module", "call:e call:t call:n let:x read:x", "e t n r r "),
         ("module", "let:first let:second read:second", "e t t "),
         ("module", "var:x const:y=x var:x", "e t e e "),
         ("module", "var:x var:x", "e e "),

@@ -26,6 +26,10 @@ const A_SHORTHAND_PROPERTY: &str =
 pub(crate) const A_SHADOWED_NAME_OF_A_FUNCTION: &str =
     "{\"type\":\"Program\",\"body\":[{\"type\":\"ExpressionStatement\",\"expression\":{\"type\":\"FunctionExpression\",\"id\":{\"type\":\"Identifier\",\"name\":\"f\"},\"params\":[{\"type\":\"Identifier\",\"name\":\"f\"}],\"body\":{\"type\":\"BlockStatement\",\"body\":[{\"type\":\"ReturnStatement\",\"argument\":{\"type\":\"Identifier\",\"name\":\"f\"}}]}}}],\"sourceType\":\"script\"}";
 
+// A name of a function that a `let` in its body shadows.
+const A_NAME_OF_A_FUNCTION_SHADOWED_BY_LET: &str =
+    "{\"type\":\"Program\",\"body\":[{\"type\":\"ExpressionStatement\",\"expression\":{\"type\":\"FunctionExpression\",\"id\":{\"type\":\"Identifier\",\"name\":\"f\"},\"params\":[],\"body\":{\"type\":\"BlockStatement\",\"body\":[{\"type\":\"VariableDeclaration\",\"kind\":\"let\",\"declarations\":[{\"type\":\"VariableDeclarator\",\"id\":{\"type\":\"Identifier\",\"name\":\"f\"},\"init\":{\"type\":\"Literal\",\"value\":1,\"raw\":\"1\"}}]},{\"type\":\"ReturnStatement\",\"argument\":{\"type\":\"Identifier\",\"name\":\"f\"}}]}}}],\"sourceType\":\"module\"}";
+
 // An export.
 const AN_EXPORT: &str =
     "{\"type\":\"Program\",\"body\":[{\"type\":\"ExportNamedDeclaration\",\"specifiers\":[],\"declaration\":{\"type\":\"VariableDeclaration\",\"kind\":\"const\",\"declarations\":[{\"type\":\"VariableDeclarator\",\"id\":{\"type\":\"Identifier\",\"name\":\"x\"},\"init\":{\"type\":\"Literal\",\"value\":1,\"raw\":\"1\"}}]}},{\"type\":\"VariableDeclaration\",\"kind\":\"let\",\"declarations\":[{\"type\":\"VariableDeclarator\",\"id\":{\"type\":\"Identifier\",\"name\":\"y\"},\"init\":{\"type\":\"Identifier\",\"name\":\"x\"}}]},{\"type\":\"ExportNamedDeclaration\",\"specifiers\":[{\"type\":\"ExportSpecifier\",\"local\":{\"type\":\"Identifier\",\"name\":\"y\"},\"exported\":{\"type\":\"Identifier\",\"name\":\"z\"}}]}],\"sourceType\":\"module\"}";
@@ -56,6 +60,7 @@ fn nested_scopes_are_mangled(rt: HostRuntime) -> Result<(), Fail> {
         (A_FUNCTION_OF_A_SCRIPT, "f e e "),
         (A_SHORTHAND_PROPERTY, "e x e "),
         (A_SHADOWED_NAME_OF_A_FUNCTION, "e e e "),
+        (A_NAME_OF_A_FUNCTION_SHADOWED_BY_LET, "e e e "),
         (AN_EXPORT, "x e x e z "),
         (A_DIRECT_EVAL, "f a eval a g e e "),
         (PRIVATE_NAMES, "e e m e t n e e e "),

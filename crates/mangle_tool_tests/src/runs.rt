@@ -1,6 +1,7 @@
 //! How runs end: by their input, and by the call of a source or a sink that fails.
 
-use crate::samples::{EMPTY_ANSWER, EMPTY_MODULE};
+use crate::samples::{EMPTY_ANSWER, EMPTY_MODULE, LET_MODULE};
+use crate::words::end_by_words;
 use mangle_tool::memory::{MemorySink, MemorySource, SliceSource};
 use mangle_tool::run::run;
 use mangle_tool::status::Status;
@@ -11,14 +12,6 @@ use std::test::Fail;
 const TWICE_DECLARED: &str =
     "{\"type\":\"Program\",\"body\":[{\"type\":\"VariableDeclaration\",\"kind\":\"let\",\"declarations\":[{\"type\":\"VariableDeclarator\",\"id\":{\"type\":\"Identifier\",\"name\":\"x\"}},{\"type\":\"VariableDeclarator\",\"id\":{\"type\":\"Identifier\",\"name\":\"x\"}}]}],\"sourceType\":\"module\"}";
 
-// Whether a run over this input ends so, with this text in the sink.
-fn ends_as(alloc: Global, input: &str, status: Status, written: &str) -> Result<bool, AllocError> {
-    let mut source = SliceSource::new(input.as_bytes());
-    let mut sink = MemorySink::with_room(alloc, 106, 106, &[])?;
-    let ended = run(alloc, &[], &mut source, &mut sink);
-    Ok(ended == status && sink.bytes() == written.as_bytes())
-}
-
 #[test]
 fn runs_end_by_their_input(rt: HostRuntime) -> Result<(), Fail> {
     for (input, status, written) in [
@@ -27,7 +20,26 @@ fn runs_end_by_their_input(rt: HostRuntime) -> Result<(), Fail> {
         ("null", Status::BadTree, ""),
         (TWICE_DECLARED, Status::BadScope, ""),
     ] {
-        assert!(rt; ends_as(rt.alloc(), input, status, written)?, "of {input}");
+        let (ended, text) = end_by_words(rt.alloc(), "", input)?;
+        assert!(rt; ended == status && text.as_str() == written, "of {input}");
+    }
+    Ok(())
+}
+
+// How a run ends over the first bytes of a module, if there are so many and nothing is written.
+fn end_of_beginning(alloc: Global, end: usize) -> Result<Option<Status>, Fail> {
+    let Some(input) = LET_MODULE.get(..end) else {
+        return Ok(None);
+    };
+    let (ended, text) = end_by_words(alloc, "", input)?;
+    Ok(text.is_empty().then_some(ended))
+}
+
+#[test]
+fn beginnings_are_not_json(rt: HostRuntime) -> Result<(), Fail> {
+    for end in 0..LET_MODULE.len() {
+        let ended = end_of_beginning(rt.alloc(), end)?;
+        assert!(rt; ended == Some(Status::NotJson), "of {end} bytes");
     }
     Ok(())
 }
@@ -43,10 +55,14 @@ fn end_by_read(alloc: Global, call: u64) -> Result<Option<Status>, AllocError> {
 
 #[test]
 fn runs_end_by_a_failing_read(rt: HostRuntime) -> Result<(), Fail> {
-    // Eleven calls give 8 bytes each, but for the last, which gives 4; the twelfth finds the end.
-    for call in 0..12 {
+    // Eleven calls give 8 bytes each, but for the last, which gives 4; the twelfth finds the end, and there is no
+    // further one to fail.
+    for call in 0..13 {
         let ended = end_by_read(rt.alloc(), call)?;
-        assert!(rt; ended == Some(Status::ReadFault), "in call {call}");
+        assert!(rt;
+            ended == (call < 12).then_some(Status::ReadFault),
+            "in call {call}"
+        );
     }
     Ok(())
 }

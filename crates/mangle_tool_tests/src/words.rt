@@ -23,8 +23,12 @@ fn words_in(alloc: Global, line: &str) -> Result<Vec<CompactStr>, AllocError> {
     Ok(words)
 }
 
-// How a run by these words over a function of a script ends, and what it writes.
-fn end_by_words(alloc: Global, line: &str, input: &str) -> Result<(Status, String), Fail> {
+// How a run by these words over this input ends, and what it writes.
+pub(crate) fn end_by_words(
+    alloc: Global,
+    line: &str,
+    input: &str,
+) -> Result<(Status, String), Fail> {
     let words = words_in(alloc, line)?;
     let mut source = SliceSource::new(input.as_bytes());
     let mut sink = MemorySink::with_room(alloc, 2000, 2000, &[])?;

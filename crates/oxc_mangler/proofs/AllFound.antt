@@ -1,16 +1,13 @@
 -- What is found in turn is, all together, what the mangler answers.
-use Rattle.std.specs.Prelude.{◌≡◌, ℕ, List, length, get_or, Option, None, Some, IsTrue}
+use Rattle.std.specs.Prelude.{◌≡◌, ℕ, List, length, Option}
 use Rattle.std.specs.Option.{unwrap_or}
 use Rattle.std.proofs.Common.{sym, ap, ◌∙◌, subst}
 use Rattle.name_rules.specs.Options.{Options}
-use Rattle.new_names.specs.NewNames.{IsListOf}
 use Rattle.oxc_mangler.specs.ClassNames.{AreClassNames}
 use Rattle.place_list.specs.TableViews.{places_in}
 use Rattle.place_list.specs.declared.tables.PlaceList.{PlaceList}
-use Rattle.scope_rules.specs.Bindings.{same_name}
-use Rattle.scope_rules.specs.Symbols.{symbols}
 use Rattle.symbol_names.specs.Found.{AreSymbolNames}
-use Rattle.symbol_names.specs.Named.{AreNamed, called}
+use Rattle.symbol_names.specs.Named.{AreNamed}
 use Rattle.symbol_names.specs.declared.found.SymbolNames.{SymbolNames}
 use Rattle.tree_nodes.specs.Tree.{Parts, Text}
 use Rattle.tree_places.specs.Places.{Place, places, seen}

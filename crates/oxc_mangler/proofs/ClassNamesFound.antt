@@ -1,10 +1,10 @@
 -- The names that are looked up by class are the new private names of a tree.
-use Rattle.std.specs.Prelude.{◌≡◌, ◌⊎◌, ◌<◌, ◌≤◌, ℕ, ◌+◌, Bool, true, false, cond, nat_lt, List, [], ◌∷◌, drop, length, map, get_or, Option, Some, None, option_map, IsTrue}
+use Rattle.std.specs.Prelude.{◌≡◌, ◌⊎◌, ◌≤◌, ℕ, ◌+◌, Bool, true, false, cond, nat_lt, List, [], ◌∷◌, length, map, Option, Some, None, option_map}
 use Rattle.std.specs.BTreeMap.{BTreeMap}
 use Rattle.std.specs.Borrow.{Bor}
 use Rattle.std.specs.List.{Contains}
-use Rattle.std.proofs.Common.{refl, sym, ap, ◌∙◌, subst, arith, inl, inr, lt-ltb, le-ltb}
-use Rattle.std.proofs.lemmas.Bool.{cases_lt, or_cases}
+use Rattle.std.proofs.Common.{refl, sym, ap, ◌∙◌, subst, arith, inl, inr, lt-ltb}
+use Rattle.std.proofs.lemmas.Bool.{or_cases}
 use Rattle.std.proofs.lemmas.List.{get_or_past, length-map}
 use Rattle.class_tables.proofs.ListedPlaces.{class_below}
 use Rattle.list_laws.proofs.AllOf.{of_each}
@@ -16,7 +16,7 @@ use Rattle.name_rules.specs.ShortNames.{short}
 use Rattle.oxc_mangler.proofs.LookedUp.{from_looked_up, listed, unlisted}
 use Rattle.oxc_mangler.specs.ClassNames.{AreClassNames, looked_up, new_class_name}
 use Rattle.place_list.specs.Bounds.{IsBounded, IsKnown}
-use Rattle.place_list.specs.TableViews.{classes_at, entry_view, list_view, lists_in, places_in}
+use Rattle.place_list.specs.TableViews.{entry_view, list_view, lists_in, places_in}
 use Rattle.place_list.specs.Tables.{Entry, place_of, setting_of, site_of}
 use Rattle.place_list.specs.declared.tables.PlaceEntry.{PlaceEntry}
 use Rattle.place_list.specs.declared.tables.PlaceList.{PlaceList}

@@ -6,3 +6,5 @@ pub mod LookedUp
 pub mod ClassNamesFound
 -- all together
 pub mod AllFound
+-- the laws on names
+pub mod NamesMeetLaws

@@ -1,10 +1,9 @@
 -- What is looked up in a list of different names, one name after another.
-use Rattle.std.specs.Prelude.{◌≡◌, ◌<◌, ◌≤◌, ℕ, zero, suc, ◌+◌, ◌-◌, Bool, true, false, cond, ◌&&◌, ◌||◌, nat_eq, nat_lt, List, [], ◌∷◌, ◌++◌, filter, length, map, take, get_or, Option, Some, None}
-use Rattle.std.specs.List.{list_any}
+use Rattle.std.specs.Prelude.{◌≡◌, ◌<◌, ◌≤◌, ℕ, zero, suc, ◌+◌, Bool, true, false, cond, ◌&&◌, ◌||◌, nat_eq, nat_lt, List, [], ◌∷◌, ◌++◌, filter, length, map, take, get_or, Option, Some, None}
 use Rattle.std.proofs.Common.{refl, sym, ap, ◌∙◌, subst, arith, inl, inr, lt-ltb, le-ltb}
 use Rattle.std.specs.Prelude.{◌⊎◌}
-use Rattle.std.proofs.lemmas.Bool.{both_ways, cases_lt, eq-eqb, eqb-false, eqb-true, or_parts}
-use Rattle.std.proofs.lemmas.List.{get_or_past, length-map, length-take-le, take_more}
+use Rattle.std.proofs.lemmas.Bool.{both_ways, cases_lt, eqb-false, eqb-true, or_parts}
+use Rattle.std.proofs.lemmas.List.{length-take-le, take_more}
 use Rattle.class_tables.proofs.Distinct.{same_flips}
 use Rattle.list_laws.proofs.Tests.{none_some, tested}
 use Rattle.name_rules.specs.PrivateNumbers.{index_of}

@@ -1,8 +1,8 @@
 -- The nodes of a tree are as many as it has.
-use Rattle.std.specs.Prelude.{◌≡◌, ℕ, suc, ◌+◌, List, ◌++◌, length, map, slice_get, IfSome}
+use Rattle.std.specs.Prelude.{◌≡◌, ℕ, ◌+◌, List, ◌++◌, length, map, slice_get, IfSome}
 use Rattle.std.proofs.Common.{refl, subst, ◌∙◌, arith}
 use Rattle.std.proofs.lemmas.List.{length-append, length-map}
-use Rattle.place_list.specs.Nodes.{NestedNode, NodeAt, nested, nested_nodes, nodes, nodes_from}
+use Rattle.place_list.specs.Nodes.{NodeAt, nested, nested_nodes, nodes, nodes_from}
 use Rattle.place_list.specs.ScopeKinds.{value_scope}
 use Rattle.place_list.specs.declared.setting.ScopeKind.{ScopeKind}
 use Rattle.place_list.specs.declared.setting.ScopeKind.TheVariants.{Function}

@@ -1,3 +1,4 @@
 pub mod Asked
 pub mod ClassNames
+pub mod NameLaws
 pub mod Returned

@@ -3,10 +3,12 @@
 ghost use Rattle.std.specs.Prelude.{◌≡◌, ◌+◌, ◌<◌, ◌^◌, None, Some, IfErr, IfOk, IfSome, IsTrue, OnErr, false, is_some, length};
 ghost use Rattle.mangle_options.specs.Settings.{reserved_in};
 ghost use Rattle.oxc_mangler.specs.Asked.{asked, asked_with, options_of, reserved_by};
+ghost use Rattle.oxc_mangler.specs.NameLaws.{MeetNameLaws};
 ghost use Rattle.oxc_mangler.specs.Returned.{IsNameResult, IsReturn};
 ghost use Rattle.oxc_mangler.specs.declared.error.BuildError.TheVariants.{BadScope};
 ghost use Rattle.scope_rules.specs.Bindings.{same_name};
 ghost use Rattle.scope_rules.specs.Faults.{has_fault};
+ghost use Rattle.tree_core.specs.Program.{IsProgram};
 ghost use Rattle.tree_nodes.specs.NodeCount.{node_count};
 ghost use Rattle.tree_nodes.specs.Tree.{Parts, Tree, alone};
 ghost use Rattle.tree_places.specs.Places.{places};
@@ -85,6 +87,7 @@ impl<'m> Mangler<'m> {
     ) -> Result<ManglerReturn<'t>, BuildError>
         requires { node_count program.now + length (reserved_by (options_of self)) < 2 ^ 30 }
         ensures mangled { IfOk result (λ r. IsReturn (asked (options_of self.entry) (alone program.now)) (alone program.now) r) }
+        ensures laws { IfOk result (λ r. MeetNameLaws (asked (options_of self.entry) (alone program.now)) (alone program.now) r.names) }
         ensures bad_scope { IfErr result (λ e. e ≡ BadScope → IsTrue (has_fault same_name (places (alone program.now)))) }
     {
         let options = options_or_usual(alloc, self.options);
@@ -108,6 +111,7 @@ impl<'m> Mangler<'m> {
         requires few { length (nodes_in (nodes_of semantic.old)) + length (reserved_by (options_of self)) < 2 ^ 30 }
         ensures same { (t : Parts) → IsSemanticOf t semantic.old → IsSemanticOf t semantic.new }
         ensures mangled { IfOk result (λ r. (t : Tree) → IsSemanticOf (alone t) semantic.old → IsNameResult (asked (options_of self.entry) (alone t)) (alone t) (scoping_of semantic.new) r) }
+        ensures laws { IfOk result (λ r. (t : Tree) → IsProgram t → IsSemanticOf (alone t) semantic.old → MeetNameLaws (asked (options_of self.entry) (alone t)) (alone t) r.names) }
         ensures refused { OnErr result (semantic.new ≡ semantic.old) }
     {
         let options = options_or_usual(alloc, self.options);
@@ -133,6 +137,7 @@ fn mangle<'t>(
 ) -> Result<Option<ManglerReturn<'t>>, AllocError>
     requires { node_count root.now + length (reserved_in options.now) < 2 ^ 30 }
     ensures mangled { IfOk result (λ found. IfSome found (λ r. IsReturn (asked_with options.now (alone root.now)) (alone root.now) r)) }
+    ensures laws { IfOk result (λ found. IfSome found (λ r. IsProgram root.now → MeetNameLaws (asked_with options.now (alone root.now)) (alone root.now) r.names)) }
     ensures faulty { IfOk result (λ found. is_some found ≡ false → IsTrue (has_fault same_name (places (alone root.now)))) }
 {
     let list = list_places(alloc, root)?;

@@ -2,7 +2,7 @@
 
 use crate::mangled::{Asked, USUAL, mangled};
 use crate::programs::{
-    BLOCKS, EVAL, EXPORTS, INNER, RANKED, SCRIPT, SHADOWED, UNBOUND, WITH, WRAPPED,
+    BLOCKS, EVAL, EXPORTS, INNER, RANKED, SCRIPT, SHADOWED, SHORTHAND, UNBOUND, WITH, WRAPPED,
 };
 use std::test::Fail;
 
@@ -13,6 +13,7 @@ fn symbols_get_names(rt: HostRuntime) -> Result<(), Fail> {
         (INNER, "e t "),
         (SCRIPT, "f e "),
         (UNBOUND, "n "),
+        (SHORTHAND, "e "),
         (SHADOWED, "e e "),
         (EXPORTS, "x e "),
         (EVAL, "f a g e "),

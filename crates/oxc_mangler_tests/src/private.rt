@@ -1,7 +1,7 @@
 //! New private names, by class.
 
 use crate::mangled::program;
-use crate::programs::{CLASSES, OPEN};
+use crate::programs::{CLASSES, OPEN, SHARED};
 use oxc_mangler::Mangler;
 use std::alloc::Global;
 use std::test::Fail;
@@ -35,6 +35,9 @@ fn private_names_get_names(rt: HostRuntime) -> Result<(), Fail> {
         (CLASSES, 0, "y", "t"),
         (CLASSES, 0, "z", ""),
         (CLASSES, 1, "z", "n"),
+        (SHARED, 0, "x", "e"),
+        (SHARED, 1, "x", "t"),
+        (SHARED, 1, "y", "n"),
         (OPEN, 0, "e", ""),
         (OPEN, 1, "y", "t"),
     ] {

@@ -1,15 +1,15 @@
 -- What is read and written, by what words ask for.
-use Rattle.std.proofs.Common.{◌≡◌, ◌≢◌, ◌≤◌, ◌⊎◌, inl, inr, ℕ, Bool, true, false, List, [], ◌∷◌, Option, Some, None, option_map, length, drop, arith, refl, sym, ap, ◌∙◌, subst}
+use Rattle.std.proofs.Common.{◌≡◌, ◌≢◌, ◌≤◌, ◌⊎◌, inl, inr, ℕ, true, List, [], ◌∷◌, Option, Some, None, option_map, length, arith, refl, sym, ap, ◌∙◌, subst}
 use Rattle.mangle_options.specs.Settings.{options_in, reserved_in}
 use Rattle.mangle_options.specs.declared.options.MangleOptions.{MangleOptions}
 use Rattle.mangle_tool.specs.Answer.{IsCauseOf, IsReadFrom, IsValidInput}
-use Rattle.mangle_tool.specs.Asked.{Asked, asked_by, asked_for}
+use Rattle.mangle_tool.specs.Asked.{asked_by, asked_for}
 use Rattle.mangle_tool.specs.Answer as base
 use Rattle.mangle_tool.specs.Run as run
 use Rattle.mangle_tool.specs.declared.status.Status.{Status}
 use Rattle.mangle_tool.specs.declared.status.Status.TheVariants as status
 use Rattle.mangle_tool.specs.declared.estree.error.MangleError.{MangleError}
-use Rattle.tool_commands.specs.Command.{AsksMapping, IsToolAnswer, IsToolCause, IsWorkAsked, ToolTask, asked_by_word, command_word, mapping, plain, reporting, restoring, tool_command_of, work_of}
+use Rattle.tool_commands.specs.Command.{IsToolAnswer, IsToolCause, IsWorkAsked, ToolTask, asked_by_word, command_word, mapping, plain, reporting, restoring, tool_command_of}
 use Rattle.tool_commands.specs.Map.{IsMapAnswer, IsMapBy}
 use Rattle.tool_commands.specs.Report.{IsReportable}
 use Rattle.tool_commands.specs.Restore.{IsRestorable}
@@ -23,7 +23,7 @@ use Rattle.tool_commands.specs.declared.refusal.Refusal.{Refusal}
 use Rattle.tool_commands.specs.declared.refusal.Refusal.TheVariants.{BadMap, BadSpan, Input}
 use Rattle.tool_outside.specs.Outside.{HasAnswered, HasBegunAnswer, HasRefused}
 use Rattle.tool_outside.specs.declared.carry_out.TheConstants.{INPUT_LIMIT}
-use Rattle.tool_words.specs.Words.{AreAsked, Flags, HasSettings, Settings, Task, command_of, flags_in, making, mangling, settings_of}
+use Rattle.tool_words.specs.Words.{Flags, HasSettings, Settings, Task}
 use Rattle.tool_words.specs.declared.command.Layout.{Layout}
 use Rattle.tool_words.specs.declared.command.Layout.TheVariants.{Compact}
 use Rattle.tree_nodes.specs.Tree.{Text}

@@ -1,16 +1,13 @@
 -- How a command ends tells how its work ended.
-use Rattle.std.proofs.Common.{◌≡◌, ◌≢◌, ◌⊎◌, ℕ, List, Some, length, inl, inr, refl, ap, sym, ◌∙◌, subst, true≢false}
+use Rattle.std.proofs.Common.{◌≡◌, ◌≢◌, ◌⊎◌, ℕ, List, length, inl, inr, refl, ap, sym, ◌∙◌, subst, true≢false}
 use Rattle.list_laws.proofs.Tests.{none_some, some_one}
 use Rattle.mangle_options.specs.Settings.{reserved_in}
 use Rattle.mangle_tool.proofs.Ends.{valid_refused}
-use Rattle.mangle_tool.specs.Answer.{IsCauseOf, IsValidInput}
-use Rattle.mangle_tool.specs.Answer as run
 use Rattle.mangle_tool.specs.Input.{Parses}
-use Rattle.mangle_tool.specs.declared.estree.error.MangleError.{MangleError}
 use Rattle.mangle_tool.specs.declared.estree.error.MangleError.TheVariants as error
 use Rattle.mangle_tool.specs.declared.status.Status.TheVariants as status
 use Rattle.name_map.specs.Fits.{Fits}
-use Rattle.scope_report.specs.Findings.{HasBadSpan, StartInText}
+use Rattle.scope_report.specs.Findings.{HasBadSpan}
 use Rattle.scope_report.specs.Found.{found_in}
 use Rattle.serde_json.specs.Data.{Data}
 use Rattle.tool_commands.proofs.Commands.{CanAnswer}
@@ -30,7 +27,6 @@ use Rattle.tool_outside.specs.declared.read_all.ReadAllError.TheVariants as read
 use Rattle.tool_outside.specs.declared.work.Outcome.{Outcome}
 use Rattle.tool_outside.specs.declared.work.Outcome.TheVariants.{Done, Unread, Refused, Unwritten}
 use Rattle.tree_core.specs.Limits.{is_too_large}
-use Rattle.tree_nodes.specs.Tree.{Tree}
 
 -- the end of work that leads to this status; Memory has two, and BadArgument none
 from_status : ToolStatus → Outcome Refusal

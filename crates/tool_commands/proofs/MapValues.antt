@@ -1,5 +1,5 @@
 -- What is read from the text of a map's value is a value of the map.
-use Rattle.std.proofs.Common.{◌≡◌, ℕ, ◌^◌, ◌<◌, pos, negsuc, List, [], ◌∷◌, Bool, true, false, ◌&&◌, codes, Option, Some, None, option_map, option_and_then, if◌then◌else◌, IsUtf8, refl, sym, ap, ap₂, ◌∙◌, subst, arith}
+use Rattle.std.proofs.Common.{◌≡◌, ℕ, ◌^◌, ◌<◌, pos, negsuc, List, [], ◌∷◌, Bool, true, ◌&&◌, codes, Option, Some, None, option_map, option_and_then, if◌then◌else◌, IsUtf8, refl, ap, ap₂, ◌∙◌, arith}
 use Rattle.std.specs.List.{AllByRecursion}
 use Rattle.json_reading.proofs.Fields.{below_same, text_same, two_back, under}
 use Rattle.json_reading.proofs.Puts.{back, found_back, members_back}
@@ -15,8 +15,8 @@ use Rattle.name_map.specs.Written.{IsMap, map_value, numbers_value, old_names_va
 use Rattle.tree_core.proofs.AsciiTexts.{text_of_ascii}
 use Rattle.tree_core.specs.JsonOf.{items_of}
 use Rattle.tree_core.specs.Readable.{is_ascii}
-use Rattle.tree_core.specs.Reading.{are_distinct, below, find_member, has_only}
-use Rattle.tree_nodes.proofs.Cases.{both, if_some, none_some, some_same}
+use Rattle.tree_core.specs.Reading.{are_distinct, find_member, has_only}
+use Rattle.tree_nodes.proofs.Cases.{both, if_some, some_same}
 
 -- ---- it can be read
 

@@ -1,5 +1,5 @@
 -- What `serde_json` reads from the text of a program beside a map.
-use Rattle.std.proofs.Common.{◌≡◌, ℕ, ◌+◌, ◌<◌, ◌≤◌, ◌^◌, List, [], ◌∷◌, ◌++◌, length, Bool, true, false, ◌||◌, nat_le, codes, Option, Some, IsUtf8, refl, sym, ap, ap₂, ◌∙◌, arith, length-append}
+use Rattle.std.proofs.Common.{◌≡◌, ℕ, ◌+◌, ◌<◌, ◌≤◌, ◌^◌, List, [], ◌∷◌, ◌++◌, length, Bool, false, ◌||◌, codes, Some, IsUtf8, refl, ap, ap₂, ◌∙◌, arith, length-append}
 use Rattle.std.proofs.lemmas.Bool.{lt-leb}
 use Rattle.std.proofs.lemmas.Str.{IsUtf8-append}
 use lib.Utf8.{encode}
@@ -15,7 +15,6 @@ use Rattle.json_reading.proofs.Utf8.{value_utf8}
 use Rattle.json_reading.proofs.ValuesRead.{lexemes_read}
 use Rattle.json_reading.specs.Parsed.{parsed_as, text_in_units}
 use Rattle.json_reading.specs.Readable.{HasNoLone, IsReadable, nesting}
-use Rattle.json_text.specs.Json.{Json}
 use Rattle.json_text.specs.Layout.{compact}
 use Rattle.json_text.specs.Strings.{quoted_units}
 use Rattle.json_text.specs.Text.{text_of}
@@ -26,7 +25,7 @@ use Rattle.serde_json.specs.Data as parsed
 use Rattle.serde_json.specs.Read.{max_depth, read}
 use Rattle.tool_commands.proofs.MapValues.{map_read, map_readable, word_text}
 use Rattle.tool_commands.proofs.Pairs.{both_there}
-use Rattle.tool_commands.specs.Mapped.{Mapped, both, mapped, mapped_in, mapped_text, mapped_value}
+use Rattle.tool_commands.specs.Mapped.{mapped, mapped_in, mapped_text, mapped_value}
 use Rattle.tree_core.specs.JsonOf.{json_of}
 use Rattle.tree_core.specs.Limits.{has_long_part, is_too_large, objects_in}
 use Rattle.tree_core.specs.Program.{IsProgram}
@@ -70,8 +69,14 @@ module _ (u : Tree) (m : Undoing) (p : IsProgram u) (s : IsMap m) (whole : HasNo
   lengths : (t n : List ℕ) → length (123 ∷ ((codes "\"node\":" ++ (t ++ (44 ∷ (codes "\"map\":" ++ (n ++ []))))) ++ 125 ∷ [])) + 2
       ≡ length (codes "{\"node\":\n" ++ (t ++ (codes "\n,\"map\":" ++ (n ++ codes "}"))))
   lengths t n =
-      omega (arith, length-append (codes "\"node\":" ++ (t ++ (44 ∷ (codes "\"map\":" ++ (n ++ []))))) (125 ∷ []), length-append t (44 ∷ (codes "\"map\":" ++ (n ++ []))),
-      length-append n [], length-append t (codes "\n,\"map\":" ++ (n ++ codes "}")), length-append n (codes "}"))
+      omega (
+        arith,
+        length-append (codes "\"node\":" ++ (t ++ (44 ∷ (codes "\"map\":" ++ (n ++ []))))) (125 ∷ []),
+        length-append t (44 ∷ (codes "\"map\":" ++ (n ++ []))),
+        length-append n [],
+        length-append t (codes "\n,\"map\":" ++ (n ++ codes "}")),
+        length-append n (codes "}"),
+      )
 
   shorter : length (text_of compact (mapped_value u m)) + 2 ≡ length (mapped_text u m)
   unfolding encode

@@ -5,7 +5,6 @@ use Rattle.json_text.proofs.Once.{reads_once}
 use Rattle.json_text.proofs.Pieces.{string_reads}
 use Rattle.json_text.proofs.Units.{AreCodeUnits-are_code_units}
 use Rattle.json_text.specs.Grammar.{IsBefore, IsColon, IsSpace, IsString, Reads, ReadsMembers}
-use Rattle.json_text.specs.HasText.{AreCodeUnits}
 use Rattle.json_text.specs.Json.{Json, no_members, member}
 use Rattle.json_text.specs.Layout.{compact}
 use Rattle.json_text.specs.Text.{text_of}

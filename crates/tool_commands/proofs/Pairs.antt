@@ -1,20 +1,19 @@
 -- The two members of an object that has exactly these, and what they hold.
-use Rattle.std.proofs.Common.{◌≡◌, ℕ, Bool, true, false, List, Option, Some, None, option_and_then, option_map, length, nat_eq, codes, if◌then◌else◌, refl, sym, ap, ◌∙◌, subst}
-use Rattle.mangle_tool.proofs.WrappedWithin.{member_found, member_within}
+use Rattle.std.proofs.Common.{◌≡◌, ℕ, Bool, false, List, Option, Some, None, option_and_then, option_map, length, nat_eq, codes, if◌then◌else◌, refl, sym, ap, ◌∙◌}
+use Rattle.mangle_tool.proofs.WrappedWithin.{member_within}
 use Rattle.name_map.specs.Reading.{map_of}
-use Rattle.name_map.specs.Undoing.{Undoing}
 use Rattle.serde_json.proofs.Views.{Entry, members_len-members_view}
 use Rattle.serde_json.specs.Data.{Data, null, boolean, number, string, array, object, Members}
 use Rattle.serde_json.specs.Events.{members_len}
 use Rattle.serde_json.specs.Find.{get_member}
-use Rattle.serde_json.specs.View.{members_view, view}
-use Rattle.tool_commands.specs.Mapped.{Mapped, mapped, mapped_in}
+use Rattle.serde_json.specs.View.{members_view}
+use Rattle.tool_commands.specs.Mapped.{mapped, mapped_in}
 use Rattle.tool_commands.specs.Pairs.{Pair, both, pair, pair_among, pair_in}
 use Rattle.tree_core.specs.JsonOf.{json_of}
 use Rattle.tree_core.specs.Limits.{is_too_large}
 use Rattle.tree_core.specs.Reading.{tree_of}
 use Rattle.tree_nodes.proofs.Cases.{if_some, map_some, none_some, then_some}
-use Rattle.tree_nodes.specs.Tree.{Text, Tree}
+use Rattle.tree_nodes.specs.Tree.{Text}
 
 -- ---- both of two options
 

@@ -1,6 +1,5 @@
 -- A source text and a program in one value, and the lines of findings.
-use Rattle.std.proofs.Common.{◌≡◌, ◌≤◌, ◌<◌, ◌+◌, ◌^◌, ◌||◌, ℕ, Bool, false, List, [], ◌∷◌, ◌++◌, Option, Some, None, length, take, map, nat_le, slice_get, get_or, codes, option_and_then, refl, sym, ap, ◌∙◌, arith}
-use Rattle.std.specs.Prelude.{flat_map}
+use Rattle.std.proofs.Common.{◌≡◌, ◌≤◌, ◌<◌, ◌+◌, ◌^◌, ℕ, zero, suc, false, List, [], ◌∷◌, ◌++◌, Some, None, length, take, nat_le, slice_get, codes, option_and_then, sym, ap, ◌∙◌, arith}
 use Rattle.std.proofs.lemmas.Bool.{or_parts}
 use Rattle.std.proofs.lemmas.Bool.Decides.{nat_tests}
 use Rattle.std.proofs.lemmas.Grind.{flat_map-append}
@@ -50,5 +49,5 @@ line_more fs i f e old new so_far put =
 
 pub none_left : (fs : List Finding) (i : ℕ) → None ≡ slice_get fs i → length fs ≤ i
 none_left [] i e = omega arith
-none_left (f ∷ fs) 0 e = absurd (cc)
+none_left (f ∷ fs) zero e = none_some f e
 none_left (f ∷ fs) (suc i) e = let l = none_left fs i e in omega (arith, l)

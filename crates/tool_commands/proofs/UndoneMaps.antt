@@ -1,25 +1,22 @@
 -- `restore` undoes `map`.
-use Rattle.std.proofs.Common.{◌≡◌, ℕ, ◌<◌, ◌≤◌, ◌^◌, List, length, Some, refl, sym, ap, ap₂, ◌∙◌, subst, arith}
+use Rattle.std.proofs.Common.{◌≡◌, ℕ, ◌<◌, ◌≤◌, ◌^◌, List, length, sym, ap, ◌∙◌, subst, arith}
 use Rattle.std.specs.Io.KnownBytes.{Appends}
 use Rattle.json_reading.specs.Parsed.{parsed_as}
 use Rattle.json_reading.specs.Readable.{HasNoLone, nesting}
 use Rattle.json_text.specs.Grammar.{Reads}
 use Rattle.json_text.specs.Json.{Json}
 use Rattle.json_text.specs.Layout.{compact}
-use Rattle.mangle_tool.specs.Input.{Parses}
 use Rattle.name_map.specs.Filled.{apply_map}
 use Rattle.name_map.specs.Undoing.{Undoing}
 use Rattle.name_rules.specs.Options.{Options}
 use Rattle.oxc_estree.specs.Envelope.{envelope}
-use Rattle.serde_json.specs.Data.{Data}
-use Rattle.serde_json.specs.Read.{max_depth, read}
+use Rattle.serde_json.specs.Read.{max_depth}
 use Rattle.tool_commands.proofs.MappedRead.{mapped_parses, mapped_told, mapped_utf8, mapped_within}
 use Rattle.tool_commands.proofs.MappedTexts.{mapped_alone, mapped_reads}
 use Rattle.tool_commands.specs.Map.{IsMapText}
 use Rattle.tool_commands.specs.Mapped.{Mapped, mapped, mapped_in, mapped_text, mapped_value}
 use Rattle.tool_commands.specs.Restore.{IsMappedInput, IsRestored}
 use Rattle.tool_commands.specs.Undone.{CanBeReadAgain, IsPipedBackTo, IsUndoneTo, MapTextsAreJson, MapsAreUndone, PipedMapsAreUndone}
-use Rattle.tool_outside.specs.declared.carry_out.TheConstants.{INPUT_LIMIT}
 use Rattle.tree_core.specs.Values.{meaning_of}
 use Rattle.tree_nodes.proofs.Cases.{some_same}
 use Rattle.tree_nodes.specs.Tree.{Tree}

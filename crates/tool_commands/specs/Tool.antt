@@ -11,7 +11,6 @@ use Rattle.tool_commands.specs.declared.refusal.Refusal.{Refusal}
 use Rattle.tool_commands.specs.declared.refusal.Refusal.TheVariants.{BadMap, BadSpan, Input}
 use Rattle.tool_outside.specs.Outside.{HasAnswered, HasBegunAnswer, HasRefused}
 use Rattle.tool_outside.specs.declared.carry_out.TheConstants.{INPUT_LIMIT}
-use Rattle.tool_words.specs.Words.{Settings}
 
 -- whether an input is read
 abbrev pub reads : Option ToolTask → Bool

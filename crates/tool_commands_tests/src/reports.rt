@@ -14,6 +14,18 @@ const SHADOWED: &str =
 const DECLARED_AGAIN: &str =
     "{\"type\":\"Program\",\"sourceType\":\"module\",\"body\":[{\"type\":\"VariableDeclaration\",\"kind\":\"let\",\"declarations\":[{\"type\":\"VariableDeclarator\",\"id\":{\"type\":\"Identifier\",\"name\":\"x\",\"start\":4},\"init\":null}]},{\"type\":\"VariableDeclaration\",\"kind\":\"var\",\"declarations\":[{\"type\":\"VariableDeclarator\",\"id\":{\"type\":\"Identifier\",\"name\":\"x\",\"start\":11},\"init\":null}]}]}";
 
+// `let x; { let x; { var x } }` as a module.
+const CROSSED: &str =
+    "{\"type\":\"Program\",\"sourceType\":\"module\",\"body\":[{\"type\":\"VariableDeclaration\",\"kind\":\"let\",\"declarations\":[{\"type\":\"VariableDeclarator\",\"id\":{\"type\":\"Identifier\",\"name\":\"x\",\"start\":4},\"init\":null}]},{\"type\":\"BlockStatement\",\"body\":[{\"type\":\"VariableDeclaration\",\"kind\":\"let\",\"declarations\":[{\"type\":\"VariableDeclarator\",\"id\":{\"type\":\"Identifier\",\"name\":\"x\",\"start\":13},\"init\":null}]},{\"type\":\"BlockStatement\",\"body\":[{\"type\":\"VariableDeclaration\",\"kind\":\"var\",\"declarations\":[{\"type\":\"VariableDeclarator\",\"id\":{\"type\":\"Identifier\",\"name\":\"x\",\"start\":22},\"init\":null}]}]}]}]}";
+
+// `{ function f() {} }` as a script.
+const SLOPPY: &str =
+    "{\"type\":\"Program\",\"sourceType\":\"script\",\"body\":[{\"type\":\"BlockStatement\",\"body\":[{\"type\":\"FunctionDeclaration\",\"id\":{\"type\":\"Identifier\",\"name\":\"f\",\"start\":11},\"generator\":false,\"async\":false,\"params\":[],\"body\":{\"type\":\"BlockStatement\",\"body\":[]},\"expression\":false}]}]}";
+
+// `(function (a = #p in b) { var b })` as a module.
+const REACHING: &str =
+    "{\"type\":\"Program\",\"sourceType\":\"module\",\"body\":[{\"type\":\"ExpressionStatement\",\"expression\":{\"type\":\"FunctionExpression\",\"id\":null,\"generator\":false,\"async\":false,\"params\":[{\"type\":\"AssignmentPattern\",\"left\":{\"type\":\"Identifier\",\"name\":\"a\",\"start\":11},\"right\":{\"type\":\"BinaryExpression\",\"left\":{\"type\":\"PrivateIdentifier\",\"name\":\"p\",\"start\":15},\"operator\":\"in\",\"right\":{\"type\":\"Identifier\",\"name\":\"b\",\"start\":21}}}],\"body\":{\"type\":\"BlockStatement\",\"body\":[{\"type\":\"VariableDeclaration\",\"kind\":\"var\",\"declarations\":[{\"type\":\"VariableDeclarator\",\"id\":{\"type\":\"Identifier\",\"name\":\"b\",\"start\":30},\"init\":null}]}]},\"expression\":false}}]}";
+
 // `y` as a module, told to start at 14.
 const REFERENCE: &str =
     "{\"type\":\"Program\",\"sourceType\":\"module\",\"body\":[{\"type\":\"ExpressionStatement\",\"expression\":{\"type\":\"Identifier\",\"name\":\"y\",\"start\":14}}]}";
@@ -45,6 +57,25 @@ fn programs_have_their_lines(rt: HostRuntime) -> Result<(), Fail> {
             done,
             "1:5 unused x\n1:12 fault-1 x\n",
         ),
+        // two faults at one place, in order; the others
+        (
+            CROSSED,
+            "\"let x; { let x; { var x } }\"",
+            done,
+            "1:5 unused x\n1:14 unused x\n1:14 shadow x\n1:23 fault-1 x\n1:23 fault-2 x\n",
+        ),
+        (
+            SLOPPY,
+            "\"{ function f() {} }\"",
+            done,
+            "1:12 fault-3 f\n1:12 unused f\n",
+        ),
+        (
+            REACHING,
+            "\"(function (a = #p in b) { var b })\"",
+            done,
+            "1:12 unused a\n1:16 fault-4 p\n1:22 fault-5 b\n",
+        ),
         // CR and LF end a line together, and CR one alone
         (
             DECLARED_AGAIN,
@@ -53,7 +84,12 @@ fn programs_have_their_lines(rt: HostRuntime) -> Result<(), Fail> {
             "2:2 unused x\n3:3 fault-1 x\n",
         ),
         // columns are UTF-16 code units, of which the first character has two
-        (REFERENCE, "\"\\\"😀é\\\"; (0, y)\"", done, "1:12 unresolved y\n"),
+        (
+            REFERENCE,
+            "\"\\\"😀é\\\"; (0, y)\"",
+            done,
+            "1:12 unresolved y\n",
+        ),
         // the end of the text, one past it, within a character
         (REFERENCE, "\"0123456789abcd\"", done, "1:15 unresolved y\n"),
         (REFERENCE, "\"0123456789abc\"", ToolStatus::BadSpan, ""),
@@ -67,10 +103,7 @@ fn programs_have_their_lines(rt: HostRuntime) -> Result<(), Fail> {
         (EMPTY, "\"\",\"more\":0", bad_tree, ""),
     ] {
         let (ended, text) = reported(rt.alloc(), source, tree)?;
-        assert!(rt;
-            ended == status && text.as_str() == wanted,
-            "{source}"
-        );
+        assert!(rt; ended == status && text.as_str() == wanted, "{source}");
     }
     Ok(())
 }

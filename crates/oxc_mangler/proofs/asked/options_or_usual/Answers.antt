@@ -1,5 +1,4 @@
 use Rattle.std.proofs.Common.{ap, sym, ◌∙◌}
-use Rattle.mangle_options.specs.Settings.{reserved_in}
 use Rattle.oxc_mangler.proofs.OptionsTold.{given_asked, usual_asked}
 use Rattle.oxc_mangler.specs.Asked.{asked, reserved_by}
 use Rattle.oxc_mangler.proofs.asked.options_or_usual.Goals as goal

@@ -1,5 +1,5 @@
-use Rattle.std.specs.Prelude.{◌≡◌, ◌<◌, ◌≤◌, ◌+◌, ℕ, List, None, Option, cond, length, map, nat_lt}
-use Rattle.std.proofs.Common.{ap, arith, le-ltb, refl, sym, ◌∙◌}
+use Rattle.std.specs.Prelude.{◌≡◌, ◌+◌, ℕ, List, None, cond, length, nat_lt}
+use Rattle.std.proofs.Common.{ap, arith, le-ltb, sym, ◌∙◌}
 use Rattle.class_tables.specs.PrivateTables.{list_in}
 use Rattle.class_tables.specs.declared.private_table.PrivateTable.{PrivateTable}
 use Rattle.oxc_mangler.proofs.ClassNamesFound.{names_found, names_of, none_past}
@@ -10,7 +10,7 @@ use Rattle.place_list.specs.declared.tables.PlaceList.{PlaceList}
 use Rattle.private_numbers.specs.AllNumbers.{table_in}
 use Rattle.scope_rules.specs.PrivateNames.{private_names}
 use Rattle.tree_nodes.specs.Tree.{Text}
-use Rattle.tree_semantic.specs.Renamed.{class_count, new_name}
+use Rattle.tree_semantic.specs.Renamed.{class_count}
 use Rattle.oxc_mangler.proofs.class_names.class_names.Goals as goal
 
 pub loop-class_body-init : goal.loop-class_body-init

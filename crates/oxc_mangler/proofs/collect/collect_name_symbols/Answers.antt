@@ -7,7 +7,6 @@ use Rattle.scope_tables.specs.WholeTree.{AreTables}
 use Rattle.scope_tables.specs.declared.tables.ScopeTables.{ScopeTables}
 use Rattle.tree_places.specs.Places.{Place}
 use Rattle.tree_symbols.specs.Scopings.{tables_of}
-use Rattle.tree_symbols.specs.declared.scoping.Scoping.{Scoping}
 use Rattle.oxc_mangler.proofs.collect.collect_name_symbols.Goals as goal
 
 pub collect_name_symbols-requires : goal.collect_name_symbols-requires

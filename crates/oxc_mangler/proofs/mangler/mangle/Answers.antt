@@ -1,8 +1,10 @@
-use Rattle.std.specs.Prelude.{◌≡◌, ◌≤◌, ◌<◌, ◌+◌, ◌^◌, ℕ, List, None, Option, get_or, length}
+use Rattle.std.specs.Prelude.{◌≡◌, ◌<◌, ◌+◌, ◌^◌, List, None, Option, get_or, length}
 use Rattle.std.proofs.Common.{ap, arith, sym, ◌∙◌}
 use Rattle.mangle_options.specs.Settings.{options_in, reserved_in}
-use Rattle.name_rules.specs.Options.{Options}
+use Rattle.name_rules.specs.Options.{renames_root}
 use Rattle.oxc_mangler.proofs.AllFound.{asked_alike, classes_of_tree, named_alike}
+use Rattle.oxc_mangler.proofs.NamesMeetLaws.{names_meet_laws}
+use Rattle.oxc_mangler.proofs.OptionsTold.{options_reserved}
 use Rattle.oxc_mangler.specs.Asked.{asked_with}
 use Rattle.place_list.specs.TableViews.{places_in, scope_nodes_in, scopes_in, withs_in}
 use Rattle.place_list.specs.declared.tables.PlaceList.{PlaceList}
@@ -11,11 +13,10 @@ use Rattle.scope_rules.specs.Faults.{has_fault}
 use Rattle.scope_rules.specs.Symbols.{symbols}
 use Rattle.scope_tables.proofs.NodeIndex.{nodes_rise}
 use Rattle.scope_tables.specs.declared.tables.ScopeTables.{ScopeTables}
-use Rattle.tree_nodes.specs.NodeCount.{node_count, nodes_in}
+use Rattle.tree_nodes.specs.NodeCount.{nodes_in}
 use Rattle.tree_nodes.specs.Tree.{Text, alone}
 use Rattle.tree_places.specs.Places.{Place, places}
-use Rattle.tree_symbols.specs.Scopings.{name_set, places_of, scope_nodes_of, scopes_of, tables_of}
-use Rattle.tree_symbols.specs.declared.scoping.Scoping.{Scoping}
+use Rattle.tree_symbols.specs.Scopings.{name_set, places_of, tables_of}
 use Rattle.oxc_mangler.proofs.mangler.mangle.Goals as goal
 
 pub from_list-requires-clause-rising : goal.from_list-requires-clause-rising
@@ -78,3 +79,17 @@ returns-clause-mangled c =
       private = classes_of_tree t c.in_ok-tables.tables.list c.in_ok-found.found.private placed (ap (λ (l : PlaceList). length l.class_bodies.items) same ∙ c.in_ok-list.ensures.class_bodies) c.in_ok-found.ensures.private;
       counted = are.counted;
     }
+
+pub returns-clause-laws : goal.returns-clause-laws
+returns-clause-laws c = λ program.
+    let t = alone c.args.root.now in
+    let same = c.in_ok-tables.ensures.list in
+    let found = c.in_ok-found.ensures.symbols t (record {
+      places = ap places_in same ∙ c.in_ok-list.ensures.places;
+      scopes = ap scopes_in same ∙ c.in_ok-list.ensures.scopes;
+      withs = ap withs_in same ∙ c.in_ok-list.ensures.withs;
+    }) in
+    let are = asked_alike (options_in c.args.options.now c.renames_root-top_level.result) (asked_with c.args.options.now t) t c.in_ok-found.found.symbols (ap (options_in c.args.options.now) c.renames_root-top_level.ensures) found in
+    let reserved : length (asked_with c.args.options.now t).reserved ≡ length (reserved_in c.args.options.now) = ap length (options_reserved c.args.options.now (renames_root c.args.options.now.top_level t)) in
+    let few : nodes_in t + length (asked_with c.args.options.now t).reserved < 2 ^ 30 = omega (arith, reserved, c.requires) in
+    names_meet_laws (asked_with c.args.options.now t) c.args.root.now c.in_ok-found.found.symbols.count program few are.counted.fewest

@@ -1,5 +1,5 @@
 use Rattle.std.specs.Prelude.{length}
-use Rattle.std.proofs.Common.{ap, subst, sym, ◌∙◌}
+use Rattle.std.proofs.Common.{ap, subst, ◌∙◌}
 use Rattle.class_tables.specs.PrivateTables.{list_in}
 use Rattle.oxc_mangler.specs.ClassNames.{AreClassNames}
 use Rattle.place_list.specs.TableViews.{places_in}

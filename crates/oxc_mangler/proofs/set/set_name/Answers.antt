@@ -1,4 +1,4 @@
-use Rattle.std.specs.Prelude.{◌≡◌, ◌≤◌, ◌<◌, ◌||◌, Bool, true, false, cond, nat_eq, length, Option, Some}
+use Rattle.std.specs.Prelude.{◌≡◌, ◌||◌, Bool, true, false, cond, nat_eq, Option, Some}
 use Rattle.std.proofs.Common.{ap, arith, refl, sym, ◌∙◌}
 use Rattle.scope_rules.specs.Bindings.{or_else}
 use Rattle.scope_rules.specs.Evals.{contains}

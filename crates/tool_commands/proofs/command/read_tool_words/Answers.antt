@@ -1,4 +1,4 @@
-use Rattle.std.proofs.Common.{◌≡◌, Some, Option, sym, ap, subst, ◌∙◌}
+use Rattle.std.proofs.Common.{Some, Option, sym, ap, subst, ◌∙◌}
 use Rattle.std.proofs.lemmas.Result.{err_from_is_err_and}
 use Rattle.tool_commands.proofs.Commands.{by_word}
 use Rattle.tool_commands.specs.Command.{IsWorkAsked, ToolTask, work_of}

@@ -1,8 +1,4 @@
-use Rattle.std.proofs.Common.{◌<◌, ◌+◌, ◌^◌, length, sym, subst}
-use Rattle.mangle_options.specs.Settings.{reserved_in}
-use Rattle.tool_commands.proofs.MapAnswers.{copy_renamed, is_map_text}
-use Rattle.tree_nodes.specs.Tree.{Tree}
-use Rattle.tree_nodes.specs.NodeCount.{node_count}
+use Rattle.tool_commands.proofs.MapAnswers.{copy_renamed}
 use Rattle.tool_commands.proofs.map_answer.map_of_program.Goals as goal
 
 pub map_of_renaming-requires : goal.map_of_renaming-requires

@@ -3,10 +3,9 @@ use Rattle.std.proofs.lemmas.Result.{IfOk-weaker}
 use Rattle.json_text.specs.Json.{Items, list}
 use Rattle.json_text.specs.Layout.{compact}
 use Rattle.json_text.specs.Text.{text_of}
-use Rattle.name_map.specs.Written.{numbers_value, old_names_value}
+use Rattle.name_map.specs.Written.{old_names_value}
 use Rattle.oxc_estree.specs.Open.{items_of, number}
 use Rattle.tool_commands.proofs.MapTexts.{mapped_written, numbers_listed, pairs_items, pairs_listed}
-use Rattle.tool_commands.specs.declared.mapped_text.OldPair.{OldPair}
 use Rattle.tool_commands.proofs.mapped_text.mapped_text.Goals as goal
 
 pub returns : goal.returns

@@ -6,6 +6,7 @@ use Rattle.tool_commands.proofs.Ends.{ended_done, ended_too_long, ended_unwritte
 use Rattle.tool_commands.specs.Command.{IsToolAsked, IsToolCause, ToolTask, plain, tool_command_of}
 use Rattle.tool_commands.specs.Status.{ended}
 use Rattle.tool_commands.specs.Tool.{HasBegunTo, HasDone, IsAnswerable, IsMaking, WasRefused, reads}
+use Rattle.tool_commands.specs.Status.{ended}
 use Rattle.tool_commands.specs.declared.command.ToolWork.{ToolWork}
 use Rattle.tool_commands.specs.declared.tool_status.ToolStatus.{ToolStatus}
 use Rattle.tool_commands.specs.declared.tool_status.ToolStatus.TheVariants.{Base}
@@ -44,6 +45,12 @@ returns-in-Some-clause-complete g c = λ fine written can.
     (work_ends w told.bytes c.carry_out.result told.can
     (subst (λ (o : Option (List ℕ)). IfSome o (λ left. length left ≤ INPUT_LIMIT → EndsUnlessRefused (λ r. IsToolCause w r left) c.carry_out.result)) told.is
     (c.carry_out.ensures.complete fine written) told.within))
+
+pub returns-in-Some-clause-too_long_exactly : goal.returns-in-Some-clause-too_long_exactly
+returns-in-Some-clause-too_long_exactly g c = λ h memory fine.
+    IfSome_then (g.S.Source.left c.args.source.now)
+    (c.carry_out.ensures.too_long_exactly (λ m. memory (c.from-in-Some.ensures ∙ ap ended m)) fine)
+    (λ left p. (λ e. p.0 (ended_too_long c.carry_out.result (sym c.from-in-Some.ensures ∙ e)), λ e. c.from-in-Some.ensures ∙ ap ended (p.1 e)))
 
 -- ---- a run
 

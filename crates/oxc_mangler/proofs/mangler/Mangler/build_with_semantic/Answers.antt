@@ -1,9 +1,11 @@
-use Rattle.std.specs.Prelude.{◌≡◌, ◌≤◌, ◌<◌, ◌+◌, ◌^◌, List, None, Option, get_or, length, map}
+use Rattle.std.specs.Prelude.{◌≡◌, ◌<◌, ◌+◌, ◌^◌, List, None, Option, get_or, length, map}
 use Rattle.std.proofs.Common.{ap, arith, subst, sym, ◌∙◌}
 use Rattle.std.proofs.lemmas.List.{length-map}
 use Rattle.mangle_options.specs.Settings.{options_in, reserved_in}
 use Rattle.oxc_mangler.proofs.AllFound.{asked_alike, classes_of_tree, named_alike}
+use Rattle.oxc_mangler.proofs.NamesMeetLaws.{names_meet_laws}
 use Rattle.oxc_mangler.proofs.NodesCounted.{nodes_counted}
+use Rattle.oxc_mangler.proofs.OptionsTold.{asked_reserved}
 use Rattle.oxc_mangler.specs.Asked.{asked, options_of, reserved_by}
 use Rattle.place_list.specs.Nodes.{nested_nodes}
 use Rattle.place_list.specs.TableViews.{places_in, scopes_in, withs_in}
@@ -74,3 +76,22 @@ returns-clause-mangled c = λ r a.
       private = classes_of_tree t c.tables-tables.result.now.list c.in_ok-found.found.private placed (ap (λ (m : ScopeTables). length m.list.class_bodies.items) same ∙ a.class_bodies) c.in_ok-found.ensures.private;
       counted = are.counted;
     }
+
+pub returns-clause-laws : goal.returns-clause-laws
+returns-clause-laws c = λ r program a.
+    let t = alone r in
+    let same : c.tables-tables.result.now ≡ tables_of (scoping_of c.args.semantic.now) = c.tables-tables.ensures ∙ ap tables_of c.scoping.ensures.own in
+    let found = c.in_ok-found.ensures.symbols t (record {
+      places = ap (λ (m : ScopeTables). places_in m.list) same ∙ a.places;
+      scopes = ap (λ (m : ScopeTables). scopes_in m.list) same ∙ a.scopes;
+      withs = ap (λ (m : ScopeTables). withs_in m.list) same ∙ a.withs;
+    }) in
+    let root = c.renames_first-top_level.ensures r (ap nodes.nodes_in c.nodes.ensures ∙ a.nodes) in
+    let are = asked_alike (options_in c.options_or_usual-options.result c.renames_first-top_level.result) (asked (options_of c.args.self) t) t c.in_ok-found.found.symbols
+    (ap (options_in c.options_or_usual-options.result) root ∙ c.options_or_usual-options.ensures.asked t) found in
+    let one : length (nodes.nodes_in (nodes_of c.args.semantic.now)) ≡ length (map told (nested_nodes t)) = ap length a.nodes in
+    let two : length (map told (nested_nodes t)) ≡ length (nested_nodes t) = length-map (nested_nodes t) told in
+    let three : length (nested_nodes t) ≡ nodes_in t = nodes_counted t in
+    let reserved : length (asked (options_of c.args.self) t).reserved ≡ length (reserved_by (options_of c.args.self)) = ap length (asked_reserved (options_of c.args.self) t) in
+    let few : nodes_in t + length (asked (options_of c.args.self) t).reserved < 2 ^ 30 = omega (arith, one, two, three, reserved, c.requires.few) in
+    names_meet_laws (asked (options_of c.args.self) t) r c.in_ok-found.found.symbols.count program few are.counted.fewest
