@@ -4,7 +4,6 @@ use Rattle.mangle_tool.specs.declared.status.Status.TheVariants as status
 use Rattle.tool_commands.proofs.Commands.{base_either, base_same, by_word, plain_answerable, plain_begun, plain_done, plain_makeable, plain_none, plain_reads, plain_refusal, work_begun, work_done, work_told}
 use Rattle.tool_commands.proofs.Ends.{ended_done, ended_too_long, ended_unwritten, work_ends}
 use Rattle.tool_commands.specs.Command.{IsToolAsked, IsToolCause, ToolTask, plain, tool_command_of}
-use Rattle.tool_commands.specs.Status.{ended}
 use Rattle.tool_commands.specs.Tool.{HasBegunTo, HasDone, IsAnswerable, IsMaking, WasRefused, reads}
 use Rattle.tool_commands.specs.Status.{ended}
 use Rattle.tool_commands.specs.declared.command.ToolWork.{ToolWork}
@@ -28,13 +27,6 @@ returns-in-Some-clause-begun g c = λ h.
     let ws = c.args.words.now in
     work_begun (tool_command_of ws) _ _ _ _ c.in-Some.work (subst (λ (x : Option ToolWork). IsToolAsked ws x) c.in-Some.is c.in-Ok.ensures.asked) _ _
     (c.carry_out.ensures.begun (ended_unwritten c.carry_out.result (sym c.from-in-Some.ensures ∙ h)))
-
-pub returns-in-Some-clause-too_long_exactly : goal.returns-in-Some-clause-too_long_exactly
-returns-in-Some-clause-too_long_exactly g c = λ h memory fine.
-    let told = c.from-in-Some.ensures in
-    IfSome_then (g.S.Source.left c.args.source.now)
-    (c.carry_out.ensures.too_long_exactly (λ m. memory (told ∙ ap ended m)) fine)
-    (λ left p. (λ e. p.0 (ended_too_long c.carry_out.result (sym told ∙ e)), λ n. told ∙ ap ended (p.1 n)))
 
 pub returns-in-Some-clause-complete : goal.returns-in-Some-clause-complete
 returns-in-Some-clause-complete g c = λ fine written can.
