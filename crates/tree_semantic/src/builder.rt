@@ -1,13 +1,14 @@
 //! From a program to its analysis.
 
-ghost use Rattle.std.specs.Prelude.{◌≡◌, IfErr, IfOk, IfSome, IsTrue, false, is_some};
+ghost use Rattle.std.specs.Prelude.{◌≡◌, ℕ, IfErr, IfOk, IfSome, IsTrue, None, false, is_some};
 ghost use Rattle.scope_rules.specs.Bindings.{same_name};
 ghost use Rattle.scope_rules.specs.Faults.{has_fault};
 ghost use Rattle.tree_core.specs.Program.{IsProgram};
 ghost use Rattle.tree_nodes.specs.Tree.{alone};
 ghost use Rattle.tree_places.specs.Places.{places};
-ghost use Rattle.tree_semantic.specs.Semantics.{IsSemantic, IsSemanticOf};
+ghost use Rattle.tree_semantic.specs.Semantics.{IsSemantic, IsSemanticOf, scoping_of};
 ghost use Rattle.tree_semantic.specs.declared.builder.SemanticError.TheVariants.{BadScope};
+ghost use Rattle.tree_symbols.specs.Scopings.{name_set};
 
 use crate::classes::Classes;
 use crate::nodes::AstNodes;
@@ -57,8 +58,8 @@ impl SemanticBuilder {
         self
     }
 
-    /// The analysis of a program. BadScope comes exactly where its scopes have a fault, as the analysis is of a program
-    /// without faults; Memory is want of memory.
+    /// The analysis of a program, in which every symbol has its name in the tree. BadScope comes exactly where the
+    /// program's scopes have a fault, as the analysis is of a program without faults; Memory is want of memory.
     pub fn build<'t>(
         self,
         alloc: Global,
@@ -66,6 +67,7 @@ impl SemanticBuilder {
     ) -> Result<Semantic<'t>, SemanticError>
         ensures semantic { IfOk result (λ s. IsSemantic s) }
         ensures of_program { IfOk result (λ s. IsSemanticOf (alone program.now) s) }
+        ensures names { IfOk result (λ s. (k : ℕ) → name_set (scoping_of s) k ≡ None) }
         ensures bad_scope { IfErr result (λ e. e ≡ BadScope → IsTrue (has_fault same_name (places (alone program.now)))) }
     {
         match analyse(alloc, program.root())? {
@@ -79,6 +81,7 @@ impl SemanticBuilder {
 fn analyse<'t>(alloc: Global, root: &'t Node) -> Result<Option<Semantic<'t>>, AllocError>
     requires { IsProgram root.now }
     ensures semantic { IfOk result (λ found. IfSome found (λ s. IsSemanticOf (alone root.now) s)) }
+    ensures names { IfOk result (λ found. IfSome found (λ s. (k : ℕ) → name_set (scoping_of s) k ≡ None)) }
     ensures faulty { IfOk result (λ found. is_some found ≡ false → IsTrue (has_fault same_name (places (alone root.now)))) }
 {
     let mut list = list_places_and_nodes(alloc, root)?;

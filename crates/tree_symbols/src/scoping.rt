@@ -1,6 +1,6 @@
 //! The scoping of a tree: its symbols, references and scopes, by ids.
 
-ghost use Rattle.std.specs.Prelude.{◌≡◌, ◌<◌, ◌≤◌, ◌-◌, ◌^◌, ℕ, IfOk, IfSome, None, Some, length, map, option_map, slice_get, unwrap_or, if◌then◌else◌};
+ghost use Rattle.std.specs.Prelude.{◌≡◌, ◌<◌, ◌≤◌, ◌-◌, ◌^◌, ℕ, IfOk, IfSome, None, Some, get_or, length, map, option_map, slice_get, unwrap_or, if◌then◌else◌};
 ghost use Rattle.std.specs.List.{AllByRecursion, range_with_len};
 ghost use Rattle.oxc_str.specs.Ident.{ident_text};
 ghost use Rattle.scope_rules.specs.Bindings.{node, same_name};
@@ -58,12 +58,13 @@ pub struct Scoping<'t> {
 }
 
 impl<'t> Scoping<'t> {
-    /// The scoping of the tree whose tables these are. Err is want of memory, or of numbers: there are at most
-    /// 2^32 - 1 nodes and as many scopes.
+    /// The scoping of the tree whose tables these are, in which no name is set. Err is want of memory, or of
+    /// numbers: there are at most 2^32 - 1 nodes and as many scopes.
     pub fn build(alloc: Global, tables: ScopeTables<'t>) -> Result<Self, AllocError>
         requires { AreTables tables }
         ensures scoping { IfOk result (λ s. IsScoping s) }
         ensures tables { IfOk result (λ s. tables_of s ≡ tables.entry) }
+        ensures names { IfOk result (λ s. (k : ℕ) → name_set s k ≡ None) }
     {
         let known = known_places(alloc, &tables)?;
         let places = known.as_slice();
@@ -300,7 +301,8 @@ impl<'t> Scoping<'t> {
 
 // As many times no name.
 fn no_names(alloc: Global, count: usize) -> Result<Vec<Option<InlineString<15, u8>>>, AllocError>
-    ensures { IfOk result (λ v. length v.items ≡ count) }
+    ensures len { IfOk result (λ v. length v.items ≡ count) }
+    ensures unset { IfOk result (λ v. (k : ℕ) → get_or v.items k None ≡ None) }
 {
     let mut names = Vec::new(alloc);
     for _ in 0..count {

@@ -103,4 +103,4 @@ returns-clause-scoping c =
     let are : AreSymbols c.as_slice-places.result.now (length c.args.tables.list.scopes.items) c.in_ok-symbols.symbols = (let same : c.len-scopes.result ≡ length c.args.tables.list.scopes.items = omega (arith, c.len-scopes.ensures) in subst (λ (n : ℕ). AreSymbols c.as_slice-places.result.now n c.in_ok-symbols.symbols) same c.in_ok-symbols.ensures) in
     let many : c.len-count.result ≡ length c.in_ok-symbols.symbols.symbols.items = counted c.args.tables c.requires c.as_slice-places.result.now known c.above_nodes-nodes.result rising c.above_nodes-nodes.ensures few scopes c.in_ok-symbols.symbols c.len-count.result are c.len-count.ensures in
     is_scoping c.args.tables c.requires c.as_slice-places.result.now known c.above_nodes-nodes.result rising c.above_nodes-nodes.ensures few scopes c.in_ok-symbols.symbols c.in_ok-symbol_flags.symbol_flags c.in_ok-references.references c.in_ok-unresolved.unresolved c.in_ok-evals.evals c.in_ok-names.names
-    c.as_slice-row.result.now c.len-count.result are is_row many c.in_ok-symbol_flags.ensures c.in_ok-references.ensures c.in_ok-unresolved.ensures c.in_ok-evals.ensures c.in_ok-names.ensures
+    c.as_slice-row.result.now c.len-count.result are is_row many c.in_ok-symbol_flags.ensures c.in_ok-references.ensures c.in_ok-unresolved.ensures c.in_ok-evals.ensures c.in_ok-names.ensures.len
