@@ -109,4 +109,6 @@ members_read ms m h e =
     ∙ ap₂ joined names marks ∙ t.1
 
 pub map_read : (m : Undoing) → IsMap m → map_of (back (map_value m)) ≡ Some m
-map_read m h = members_read _ m (map_readable m h) (maps_read_back m h)
+map_read m h =
+    members_read (member (codes "names") (list (old_names_value m.names)) (member (codes "marks") (list (numbers_value m.marks)) no_members)) m
+    (map_readable m h) (maps_read_back m h)

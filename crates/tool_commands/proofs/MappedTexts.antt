@@ -12,7 +12,6 @@ use Rattle.json_text.specs.Text.{text_of}
 use Rattle.name_map.proofs.WrittenMaps.{map_texts_read}
 use Rattle.name_map.specs.Undoing.{Undoing}
 use Rattle.name_map.specs.Written.{IsMap, map_value}
-use Rattle.oxc_estree.proofs.EnvelopeReads.{IsSpace-append}
 use Rattle.tool_commands.specs.Mapped.{mapped_text, mapped_value}
 use Rattle.tree_core.proofs.ReadsBack.{printed_text_reads}
 use Rattle.tree_core.specs.Program.{IsProgram}
@@ -41,12 +40,16 @@ map_key : IsString (codes "\"map\"") (codes "map")
 unfolding encode
 map_key = string_reads (codes "map") (AreCodeUnits-are_code_units (codes "map") refl)
 
+line_after : (w : List ℕ) → IsSpace w → IsSpace (w ++ 10 ∷ [])
+line_after [] h = (inr (inl refl), tt)
+line_after (c ∷ w) h = (h.0, line_after w h.1)
+
 line_feed : (w : List ℕ) → IsSpace w → IsSpace (10 ∷ w)
 line_feed w h = (inr (inl refl), h)
 
 of_parts : (u : Tree) (m : Undoing) → Reads (text_of compact (value_of u)) (value_of u) → Reads (text_of compact (map_value m)) (map_value m) → Reads (mapped_text u m) (mapped_value u m)
 of_parts u m (w, a, z, e, sw, ra, sz) (v, b, y, f, sv, rb, sy) =
-    let before_map : IsBefore false ((z ++ 10 ∷ []) ++ 44 ∷ []) = (z ++ 10 ∷ [], [], refl, IsSpace-append z (10 ∷ []) sz (line_feed [] tt), tt) in
+    let before_map : IsBefore false ((z ++ 10 ∷ []) ++ 44 ∷ []) = (z ++ 10 ∷ [], [], refl, line_after z sz, tt) in
     let last : ReadsMembers false (after_node z v b y) (member (codes "map") (map_value m) no_members) =
     ((z ++ 10 ∷ []) ++ 44 ∷ [], codes "\"map\"", 58 ∷ v, b, after_map y, refl, before_map, map_key, ([], v, refl, tt, sv), rb, (y, refl, sy)) in
     let colon : IsColon (58 ∷ 10 ∷ w) = ([], 10 ∷ w, refl, tt, line_feed w sw) in
