@@ -1,0 +1,5 @@
+pub mod Options
+pub mod PartsAt
+pub mod Rows
+pub mod PrintedLists
+pub mod ByKind
