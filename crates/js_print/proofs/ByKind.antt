@@ -16,26 +16,26 @@ use Rattle.js_grammar.specs.Printed.{is_coalesce, is_over_call, level}
 use Rattle.js_grammar.specs.Shapes.{Array, Assign, Binary, Call, Conditional, Index, Infix, Logical, Member, New, One, Operator, Postfix, Prefix, Sequence, Shape, Shapes, Unary, also, is_target, none}
 use Rattle.js_print.specs.Kinds.{binary_level, level_by_kind, logical_level, of_kind}
 
-of_map : {A : Type 0} (f : A → Shape) (P : Shape → Type 0) (o : Option A) → ((a : A) → P (f a)) → IfSome (option_map f o) P
+pub of_map : {A : Type 0} (f : A → Shape) (P : Shape → Type 0) (o : Option A) → ((a : A) → P (f a)) → IfSome (option_map f o) P
 of_map f P None go = tt
 of_map f P (Some a) go = go a
 
-of_two : {A B : Type 0} (f : A → B → Shape) (P : Shape → Type 0) (o : Option A) (p : Option B) → ((a : A) (b : B) → P (f a b)) → IfSome (two f o p) P
+pub of_two : {A B : Type 0} (f : A → B → Shape) (P : Shape → Type 0) (o : Option A) (p : Option B) → ((a : A) (b : B) → P (f a b)) → IfSome (two f o p) P
 of_two f P None p go = tt
 of_two f P (Some a) None go = tt
 of_two f P (Some a) (Some b) go = go a b
 
-of_three : {A B C : Type 0} (f : A → B → C → Shape) (P : Shape → Type 0) (o : Option A) (p : Option B) (q : Option C) → ((a : A) (b : B) (c : C) → P (f a b c)) → IfSome (three f o p q) P
+pub of_three : {A B C : Type 0} (f : A → B → C → Shape) (P : Shape → Type 0) (o : Option A) (p : Option B) (q : Option C) → ((a : A) (b : B) (c : C) → P (f a b c)) → IfSome (three f o p q) P
 of_three f P None p q go = tt
 of_three f P (Some a) None q go = tt
 of_three f P (Some a) (Some b) None go = tt
 of_three f P (Some a) (Some b) (Some c) go = go a b c
 
-of_either : (P : Shape → Type 0) (b : Bool) (x y : Option Shape) → IfSome x P → IfSome y P → IfSome (if b then x else y) P
+pub of_either : (P : Shape → Type 0) (b : Bool) (x y : Option Shape) → IfSome x P → IfSome y P → IfSome (if b then x else y) P
 of_either P true x y h g = h
 of_either P false x y h g = g
 
-of_sequence : (P : Shape → Type 0) (o : Option Shapes) → ((x : Shape) (ss : Shapes) → P (Sequence x ss)) → IfSome (in_sequence o) P
+pub of_sequence : (P : Shape → Type 0) (o : Option Shapes) → ((x : Shape) (ss : Shapes) → P (Sequence x ss)) → IfSome (in_sequence o) P
 unfolding in_sequence
 of_sequence P None go = tt
 of_sequence P (Some none) go = tt

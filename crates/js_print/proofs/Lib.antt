@@ -3,3 +3,5 @@ pub mod PartsAt
 pub mod Rows
 pub mod PrintedLists
 pub mod ByKind
+pub mod Shaped
+pub mod Targets

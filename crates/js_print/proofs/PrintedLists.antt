@@ -96,3 +96,10 @@ tests_go_on nodes i item shaped found =
 
 pub tests_end : (nodes : Parts) (i : ℕ) → past i nodes ≡ done → is_some (shapes_in (past i nodes)) ≡ true
 tests_end nodes i e = ap (λ ps. is_some (shapes_in ps)) e ∙ ap is_some none_left
+
+-- of what the items from here on say, by what this one and those after it say
+pub tests_stop : (whole here later : Bool) → whole ≡ (here && later) → here ≡ false → false ≡ whole
+tests_stop whole here later e f = sym (e ∙ ap (λ b. b && later) f)
+
+pub tests_pass : (whole here later : Bool) → whole ≡ (here && later) → here ≡ true → whole ≡ later
+tests_pass whole here later e f = e ∙ ap (λ b. b && later) f

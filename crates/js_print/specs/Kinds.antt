@@ -42,6 +42,12 @@ level_by_kind AssignmentExpression fields = 4
 level_by_kind SequenceExpression fields = 1
 level_by_kind _ fields = 0
 
+-- a kind that may be assigned to
+unfoldable pub target_kind : Kind → Bool
+target_kind Identifier = true
+target_kind MemberExpression = true
+target_kind _ = false
+
 -- the shape of an item of a list: a hole has none
 abbrev pub item_shape : Option Tree → Option Shape
 item_shape None = None

@@ -1,11 +1,12 @@
 //! Which expressions can be printed.
 
-ghost use Rattle.std.specs.Prelude.{◌≡◌, is_some};
+ghost use Rattle.std.specs.Prelude.{◌≡◌, ◌&&◌, is_some, slice_get};
 ghost use Rattle.js_grammar.specs.Expressions as spec;
 ghost use Rattle.js_grammar.specs.Expressions.{shape_at, shape_of, shapes_at, shapes_in, target};
-ghost use Rattle.js_print.specs.Kinds.{are_two, has_property, item_shape, of_kind};
+ghost use Rattle.js_print.specs.Kinds.{are_two, has_property, item_shape, of_kind, target_kind};
 ghost use Rattle.tree_nodes.specs.Tree.{part};
 ghost use Rattle.tree_nodes.specs.Views.{part_of};
+ghost use Rattle.tree_nodes.specs.declared.kind.Kind.TheVariants.{ArrayExpression, AssignmentExpression, BinaryExpression, CallExpression, ConditionalExpression, Identifier, Literal, LogicalExpression, MemberExpression, NewExpression, SequenceExpression, UnaryExpression, UpdateExpression};
 
 use crate::operators::{
     assignment_operator, binary_operator, logical_operator, unary_operator, update_operator,
@@ -39,46 +40,171 @@ fn has_shape(kind: Kind, fields: &FieldList) -> bool
     ensures { result ≡ is_some (of_kind kind fields.now) }
 {
     match kind {
-        Kind::Identifier => is_unreserved(first_text(fields)),
-        Kind::Literal => is_plain_literal(fields),
+        Kind::Identifier => is_name(fields),
+        Kind::Literal => is_literal(fields),
         Kind::ThisExpression => true,
-        Kind::ArrayExpression => are_printable_at(fields, 0),
-        Kind::UnaryExpression => {
-            flag_at(fields, 1)
-                && unary_operator(word_at(fields, 0)).is_some()
-                && is_printable_at(fields, 2)
-        }
-        Kind::UpdateExpression => {
-            update_operator(word_at(fields, 0)).is_some() && is_target_at(fields, 2)
-        }
-        Kind::BinaryExpression => {
-            binary_operator(word_at(fields, 1)).is_some()
-                && is_printable_at(fields, 0)
-                && is_printable_at(fields, 2)
-        }
-        Kind::LogicalExpression => {
-            logical_operator(word_at(fields, 1)).is_some()
-                && is_printable_at(fields, 0)
-                && is_printable_at(fields, 2)
-        }
-        Kind::AssignmentExpression => {
-            assignment_operator(word_at(fields, 0)).is_some()
-                && is_target_at(fields, 1)
-                && is_printable_at(fields, 2)
-        }
-        Kind::ConditionalExpression => {
-            is_printable_at(fields, 0) && is_printable_at(fields, 1) && is_printable_at(fields, 2)
-        }
-        Kind::CallExpression => {
-            !flag_at(fields, 2) && is_printable_at(fields, 0) && are_printable_at(fields, 1)
-        }
-        Kind::NewExpression => is_printable_at(fields, 0) && are_printable_at(fields, 1),
-        Kind::MemberExpression => {
-            !flag_at(fields, 3) && is_printable_at(fields, 0) && is_property(fields)
-        }
-        Kind::SequenceExpression => are_printable_at(fields, 0) && has_two_items(fields),
+        Kind::ArrayExpression => is_array(fields),
+        Kind::UnaryExpression => is_unary(fields),
+        Kind::UpdateExpression => is_update(fields),
+        Kind::BinaryExpression => is_binary(fields),
+        Kind::LogicalExpression => is_logical(fields),
+        Kind::AssignmentExpression => is_assignment(fields),
+        Kind::ConditionalExpression => is_conditional(fields),
+        Kind::CallExpression => is_call(fields),
+        Kind::NewExpression => is_new(fields),
+        Kind::MemberExpression => is_member(fields),
+        Kind::SequenceExpression => is_sequence(fields),
         _ => false,
     }
+}
+
+fn both(first: bool, second: bool) -> bool
+    ensures { result ≡ (first && second) }
+{
+    first && second
+}
+
+fn all_three(first: bool, second: bool, third: bool) -> bool
+    ensures { result ≡ (first && (second && third)) }
+{
+    both(first, both(second, third))
+}
+
+fn is_name(fields: &FieldList) -> bool
+    ensures { result ≡ is_some (of_kind Identifier fields.now) }
+{
+    is_unreserved(first_text(fields))
+}
+
+fn is_literal(fields: &FieldList) -> bool
+    ensures { result ≡ is_some (of_kind Literal fields.now) }
+{
+    is_plain_literal(fields)
+}
+
+#[cycle(printable)]
+fn is_array(fields: &FieldList) -> bool
+    ensures { result ≡ is_some (of_kind ArrayExpression fields.now) }
+{
+    are_printable_at(fields, 0)
+}
+
+#[cycle(printable)]
+fn is_unary(fields: &FieldList) -> bool
+    ensures { result ≡ is_some (of_kind UnaryExpression fields.now) }
+{
+    let argument = is_printable_at(fields, 2);
+    all_three(flag_at(fields, 1), is_unary_word(word_at(fields, 0)), argument)
+}
+
+#[cycle(printable)]
+fn is_update(fields: &FieldList) -> bool
+    ensures { result ≡ is_some (of_kind UpdateExpression fields.now) }
+{
+    let argument = is_target_at(fields, 2);
+    both(is_update_word(word_at(fields, 0)), argument)
+}
+
+#[cycle(printable)]
+fn is_binary(fields: &FieldList) -> bool
+    ensures { result ≡ is_some (of_kind BinaryExpression fields.now) }
+{
+    let left = is_printable_at(fields, 0);
+    let right = is_printable_at(fields, 2);
+    all_three(is_binary_word(word_at(fields, 1)), left, right)
+}
+
+#[cycle(printable)]
+fn is_logical(fields: &FieldList) -> bool
+    ensures { result ≡ is_some (of_kind LogicalExpression fields.now) }
+{
+    let left = is_printable_at(fields, 0);
+    let right = is_printable_at(fields, 2);
+    all_three(is_logical_word(word_at(fields, 1)), left, right)
+}
+
+#[cycle(printable)]
+fn is_assignment(fields: &FieldList) -> bool
+    ensures { result ≡ is_some (of_kind AssignmentExpression fields.now) }
+{
+    let left = is_target_at(fields, 1);
+    let right = is_printable_at(fields, 2);
+    all_three(is_assignment_word(word_at(fields, 0)), left, right)
+}
+
+#[cycle(printable)]
+fn is_conditional(fields: &FieldList) -> bool
+    ensures { result ≡ is_some (of_kind ConditionalExpression fields.now) }
+{
+    let test = is_printable_at(fields, 0);
+    let consequent = is_printable_at(fields, 1);
+    let alternate = is_printable_at(fields, 2);
+    all_three(test, consequent, alternate)
+}
+
+#[cycle(printable)]
+fn is_call(fields: &FieldList) -> bool
+    ensures { result ≡ is_some (of_kind CallExpression fields.now) }
+{
+    let callee = is_printable_at(fields, 0);
+    let arguments = are_printable_at(fields, 1);
+    all_three(!flag_at(fields, 2), callee, arguments)
+}
+
+#[cycle(printable)]
+fn is_new(fields: &FieldList) -> bool
+    ensures { result ≡ is_some (of_kind NewExpression fields.now) }
+{
+    let callee = is_printable_at(fields, 0);
+    let arguments = are_printable_at(fields, 1);
+    both(callee, arguments)
+}
+
+#[cycle(printable)]
+fn is_member(fields: &FieldList) -> bool
+    ensures { result ≡ is_some (of_kind MemberExpression fields.now) }
+{
+    let object = is_printable_at(fields, 0);
+    let property = is_property(fields);
+    all_three(!flag_at(fields, 3), object, property)
+}
+
+#[cycle(printable)]
+fn is_sequence(fields: &FieldList) -> bool
+    ensures { result ≡ is_some (of_kind SequenceExpression fields.now) }
+{
+    let expressions = are_printable_at(fields, 0);
+    both(expressions, has_two_items(fields))
+}
+
+fn is_assignment_word(word: u8) -> bool
+    ensures { result ≡ is_some (slice_get spec.assignment_operators word) }
+{
+    assignment_operator(word).is_some()
+}
+
+fn is_binary_word(word: u8) -> bool
+    ensures { result ≡ is_some (slice_get spec.binary_operators word) }
+{
+    binary_operator(word).is_some()
+}
+
+fn is_logical_word(word: u8) -> bool
+    ensures { result ≡ is_some (slice_get spec.logical_operators word) }
+{
+    logical_operator(word).is_some()
+}
+
+fn is_unary_word(word: u8) -> bool
+    ensures { result ≡ is_some (slice_get spec.unary_operators word) }
+{
+    unary_operator(word).is_some()
+}
+
+fn is_update_word(word: u8) -> bool
+    ensures { result ≡ is_some (slice_get spec.update_operators word) }
+{
+    update_operator(word).is_some()
 }
 
 #[tactic(auto, unfolding(js_grammar::specs::Expressions::unreserved))]
@@ -179,13 +305,25 @@ fn is_target_at(fields: &FieldList, i: u8) -> bool
     }
 }
 
+// Whether what is of this kind may be assigned to.
+#[tactic(auto, unfolding(crate::specs::Kinds::target_kind))]
+fn is_target_kind(kind: Kind) -> bool
+    ensures { result ≡ target_kind kind }
+{
+    match kind {
+        Kind::Identifier | Kind::MemberExpression => true,
+        _ => false,
+    }
+}
+
 #[cycle(printable)]
 fn is_target(field: &Field) -> bool
     ensures { result ≡ is_some (target (shape_at (part_of field.now) 0)) }
 {
     match field {
         Field::Child(node) => {
-            node.kind.is_among(&[Kind::Identifier, Kind::MemberExpression]) && is_printable(node)
+            let printable = is_printable(node);
+            both(is_target_kind(node.kind), printable)
         }
         _ => false,
     }
@@ -202,6 +340,7 @@ fn is_printable_at(fields: &FieldList, i: u8) -> bool
 }
 
 #[cycle(printable)]
+#[tactic(auto, unfolding(js_grammar::specs::Expressions::shape_at))]
 fn is_printable_field(field: &Field) -> bool
     ensures { result ≡ is_some (shape_at (part_of field.now) 0) }
 {
@@ -222,6 +361,7 @@ fn are_printable_at(fields: &FieldList, i: u8) -> bool
 }
 
 #[cycle(printable)]
+#[tactic(auto, unfolding(js_grammar::specs::Expressions::shape_at))]
 fn is_printable_list(field: &Field) -> bool
     ensures { result ≡ is_some (shapes_at (part_of field.now) 0) }
 {
@@ -245,6 +385,7 @@ fn are_printable(nodes: &NodeList) -> bool
 }
 
 #[cycle(printable)]
+#[tactic(auto, unfolding(js_grammar::specs::Expressions::shape_at))]
 fn is_printable_item(item: &Option<Node>) -> bool
     ensures { result ≡ is_some (item_shape item.now) }
 {
