@@ -9,13 +9,9 @@ use Rattle.js_grammar.specs.Expressions.{shape_at, shapes_in, two}
 use Rattle.js_grammar.specs.Printed.{parts, printed, with_comma}
 use Rattle.js_grammar.specs.Shapes.{Shape, Shapes, also, none}
 use Rattle.js_grammar.specs.Tokens.{COMMA, Token}
+use Rattle.js_print.specs.Adds.{separator}
 use Rattle.js_print.specs.Kinds.{item_shape}
 use Rattle.js_print.proofs.Options.{some_two}
-
--- what stands before the i-th item
-abbrev pub separator : ℕ → List Token
-separator zero = []
-separator (suc i) = COMMA ∷ []
 
 -- what the items from the i-th on add
 abbrev pub following : ℕ → Shapes → List Token

@@ -1,5 +1,5 @@
 -- What printing adds for each kind of expression, from what is added for its parts. The lists of tokens are those before each step, and after the last one.
-use Rattle.std.proofs.Common.{◌≡◌, ℕ, suc, Bool, true, false, List, [], ◌∷◌, ◌++◌, Option, Some, None, IfSome, option_map, append_assoc, append-nil, refl, sym, ap, ◌∙◌, if◌then◌else◌}
+use Rattle.std.proofs.Common.{◌≡◌, ℕ, suc, Bool, true, false, Result, Ok, Err, OnOk, List, [], ◌∷◌, ◌++◌, Option, Some, None, IfSome, option_map, append_assoc, append-nil, refl, sym, ap, ◌∙◌, subst, if◌then◌else◌}
 use Rattle.syntax_lex.specs.declared.operator.assignment.AssignmentOperator.{AssignmentOperator}
 use Rattle.syntax_lex.specs.declared.operator.binary.BinaryOperator.{BinaryOperator}
 use Rattle.syntax_lex.specs.declared.operator.binary.BinaryOperator.TheVariants.{Exponential}
@@ -7,12 +7,13 @@ use Rattle.syntax_lex.specs.declared.operator.logical.LogicalOperator.{LogicalOp
 use Rattle.syntax_lex.specs.declared.operator.logical.LogicalOperator.TheVariants.{And, Coalesce, Or}
 use Rattle.syntax_lex.specs.declared.operator.unary.UnaryOperator.{UnaryOperator}
 use Rattle.syntax_lex.specs.declared.operator.update.UpdateOperator.{UpdateOperator}
+use Rattle.std.specs.Prelude.{nat_le}
 use Rattle.tree_nodes.specs.Tree.{Text}
 use Rattle.js_grammar.specs.Expressions.{in_sequence, target, three, two, updated}
-use Rattle.js_grammar.specs.Printed.{bare, is_coalesce, left_level, parts, printed, right_level}
+use Rattle.js_grammar.specs.Printed.{bare, is_coalesce, left_level, level, parts, printed, right_level}
 use Rattle.js_grammar.specs.Shapes.{Array, Assign, Binary, Call, Conditional, Index, Infix, Logical, Member, New, Operator, Postfix, Prefix, Sequence, Shape, Shapes, Unary, also, is_target, none}
 use Rattle.js_grammar.specs.Tokens.{CLOSE, CLOSE_SQUARE, COLON, DOT, NEW, OPEN, OPEN_SQUARE, QUESTION, Token, Word, assign_token, infix_token, unary_token, update_token}
-use Rattle.js_print.specs.Adds.{Adds, arguments, between, binary_left, logical_left, pair}
+use Rattle.js_print.specs.Adds.{Adds, arguments, between, binary_left, enclosed, logical_left, pair}
 
 -- one step after another
 pub join : (t0 t1 t2 a b : List Token) → t1 ≡ t0 ++ a → t2 ≡ t1 ++ b → t2 ≡ t0 ++ (a ++ b)
@@ -38,6 +39,43 @@ on_three f None p q P Q R go h g = tt
 on_three f (Some a) None q P Q R go h g = tt
 on_three f (Some a) (Some b) None P Q R go h g = tt
 on_three f (Some a) (Some b) (Some c) P Q R go h g = go a b c h g
+
+-- of a call that may fail
+pub on_ok : {T E : Type 0} (r : Result T E) (P Q : Type 0) → (P → Q) → OnOk r P → OnOk r Q
+on_ok (Ok x) P Q go h = go h
+on_ok (Err e) P Q go h = tt
+
+pub where_set : {A : Type 0} (b : Bool) (o : Option A) (P : A → Type 0) → IfSome o P → IfSome (if b then o else None) P
+where_set true o P h = h
+where_set false o P h = tt
+
+pub where_unset : {A : Type 0} (b : Bool) (o : Option A) (P : A → Type 0) → IfSome o P → IfSome (if b then None else o) P
+where_unset true o P h = tt
+where_unset false o P h = h
+
+pub one_of : {A : Type 0} (b : Bool) (o p : Option A) (P : A → Type 0) (value : Bool) → b ≡ value → IfSome (if value then o else p) P → IfSome (if b then o else p) P
+one_of b o p P value e h = subst (λ (x : Bool). IfSome (if x then o else p) P) (sym e) h
+
+-- no operator, nothing printed
+pub no_operator : {A B : Type 0} (f : A → B → Shape) (p : Option B) (o : Option A) (P : Shape → Type 0) → None ≡ o → IfSome (two f o p) P
+no_operator f p o P e = subst (λ o. IfSome (two f o p) P) e tt
+
+pub no_operator_between : {A B C : Type 0} (f : A → B → C → Shape) (p : Option B) (q : Option C) (o : Option A) (P : Shape → Type 0) → None ≡ o → IfSome (three f o p q) P
+no_operator_between f p q o P e = subst (λ o. IfSome (three f o p q) P) e tt
+
+-- at a level: bare, or in parentheses
+pub bare_row : (o : Option Shape) (k : ℕ) (b : Bool) (t0 t1 : List Token) → IfSome o (λ s. b ≡ nat_le k (level s)) → b ≡ true → Adds o bare t0 t1 → Adds o (printed k) t0 t1
+bare_row None k b t0 t1 h e g = tt
+bare_row (Some s) k b t0 t1 h e g = g ∙ ap (λ x. t0 ++ (if x then bare s else OPEN ∷ (bare s ++ CLOSE ∷ []))) (sym e ∙ h)
+
+pub enclosed_row : (o : Option Shape) (k : ℕ) (b : Bool) (t0 t1 : List Token) → IfSome o (λ s. b ≡ nat_le k (level s)) → b ≡ false → Adds o enclosed t0 t1 → Adds o (printed k) t0 t1
+enclosed_row None k b t0 t1 h e g = tt
+enclosed_row (Some s) k b t0 t1 h e g = g ∙ ap (λ x. t0 ++ (if x then bare s else OPEN ∷ (bare s ++ CLOSE ∷ []))) (sym e ∙ h)
+
+pub in_parentheses : (o : Option Shape) (t0 t1 t2 t3 : List Token) → t1 ≡ t0 ++ OPEN ∷ [] → Adds o bare t1 t2 → t3 ≡ t2 ++ CLOSE ∷ [] → Adds o enclosed t0 t3
+in_parentheses o t0 t1 t2 t3 e h f =
+    on_one o (λ s. t2 ≡ t1 ++ bare s) (λ s. t3 ≡ t0 ++ enclosed s)
+      (λ s g. join t0 t1 t3 (OPEN ∷ []) (bare s ++ CLOSE ∷ []) e (join t1 t2 t3 (bare s) (CLOSE ∷ []) g f)) h
 
 -- a target is the expression that it is
 pub on_target : (o : Option Shape) (P : Shape → Type 0) → IfSome o P → IfSome (target o) P

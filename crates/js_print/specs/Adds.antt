@@ -1,12 +1,12 @@
 -- What printing adds to the tokens so far.
-use Rattle.std.specs.Prelude.{◌≡◌, ℕ, Bool, List, [], ◌∷◌, ◌++◌, Option, IfSome, if◌then◌else◌}
+use Rattle.std.specs.Prelude.{◌≡◌, ℕ, zero, suc, Bool, List, [], ◌∷◌, ◌++◌, Option, IfSome, if◌then◌else◌}
 use Rattle.syntax_lex.specs.declared.operator.binary.BinaryOperator.{BinaryOperator}
 use Rattle.syntax_lex.specs.declared.operator.binary.BinaryOperator.TheVariants.{Exponential}
 use Rattle.syntax_lex.specs.declared.operator.logical.LogicalOperator.{LogicalOperator}
 use Rattle.syntax_lex.specs.declared.operator.logical.LogicalOperator.TheVariants.{And, Coalesce, Or}
-use Rattle.js_grammar.specs.Printed.{parts, printed}
+use Rattle.js_grammar.specs.Printed.{bare, parts, printed}
 use Rattle.js_grammar.specs.Shapes.{Binary, Operand, Shape, Shapes, infix_level}
-use Rattle.js_grammar.specs.Tokens.{CLOSE, OPEN, Token, operand_token}
+use Rattle.js_grammar.specs.Tokens.{CLOSE, COMMA, OPEN, Token, operand_token}
 
 -- if something was found, then the tokens after are those before and those of it
 abbrev pub Adds : {A : Type 0} → Option A → (A → List Token) → List Token → List Token → Type 0
@@ -26,6 +26,15 @@ between left token right p = printed left p.0 ++ token ∷ printed right p.1
 -- a list in parentheses
 abbrev pub arguments : Shapes → List Token
 arguments ss = OPEN ∷ (parts ss ++ CLOSE ∷ [])
+
+-- an expression in parentheses
+abbrev pub enclosed : Shape → List Token
+enclosed s = OPEN ∷ (bare s ++ CLOSE ∷ [])
+
+-- what stands before the i-th item of a list
+abbrev pub separator : ℕ → List Token
+separator zero = []
+separator (suc i) = COMMA ∷ []
 
 -- the level of what stands on the left of an operator
 abbrev pub binary_left : BinaryOperator → ℕ
