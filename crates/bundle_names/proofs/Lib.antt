@@ -1,5 +1,6 @@
 -- what is found of a place
 pub mod MentionsFound
+pub mod LinkedItems
 -- sets of names
 pub mod NameSets
 -- new names, and names by their numbers

@@ -1,11 +1,11 @@
 -- What is found of a place of a module.
-use Rattle.std.specs.Prelude.{◌≡◌, ◌+◌, ℕ, Bool, true, false, not, ◌&&◌, ◌||◌, List, [], ◌∷◌, ◌++◌, map, take, slice_get, Option, Some, None, is_some}
-use Rattle.std.proofs.Common.{refl, sym, ap, ◌∙◌}
+use Rattle.std.specs.Prelude.{◌≡◌, ◌<◌, ◌+◌, ℕ, Bool, true, false, not, ◌&&◌, ◌||◌, List, [], ◌∷◌, ◌++◌, length, map, take, slice_get, Option, Some, None, is_some}
+use Rattle.std.proofs.Common.{refl, sym, ap, subst, ◌∙◌, arith}
 use Rattle.std.proofs.lemmas.List.{map-append}
 use Rattle.bundle_names.specs.Views.{mentions_in}
 use Rattle.bundle_rules.specs.Mentions.{Mention, is_root, mention, mentions}
 use Rattle.place_list.proofs.PlacesStand.{mapped_at}
-use Rattle.place_list.specs.Bounds.{IsBounded}
+use Rattle.place_list.specs.Bounds.{IsBelow, IsBounded}
 use Rattle.place_list.specs.TableViews.{list_view, lists_in, place_in, places_in, scope_at}
 use Rattle.place_list.specs.declared.tables.PlaceList.{PlaceList}
 use Rattle.scope_rules.specs.Bindings.{Bound, binding, bound, is_binding, is_node, node, same_name}
@@ -27,6 +27,11 @@ module _ (l : PlaceList) (bounded : IsBounded (list_view l)) where
   root_told n None known e false t = absurd (cc)
   root_told n (Some m) known e true t = absurd (cc)
   root_told n (Some m) known e false t = let w : Next (scope_at l) m = scope_outwards l bounded m known in sym (ap is_root (e ∙ ap (λ (s : Scope). n ∷ s) w.1.0))
+
+-- a scope further out is one of the list
+pub known_below : (l : PlaceList) (s o : Option ℕ) (n : ℕ) → IsScope l s → s ≡ Some n → IsBelow n o → IsScope l o
+known_below l s None n k e b = tt
+known_below l s (Some m) n k e b = let h : n < length l.scopes.items = subst (λ (p : Option ℕ). IsScope l p) e k in omega (arith, h, b)
 
 pub nowhere_told : (l : PlaceList) → false ≡ is_root (scope_at l None)
 unfolding is_root

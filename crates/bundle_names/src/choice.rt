@@ -44,18 +44,18 @@ fn choices(
 /// A copy of the module under these new names. Err is want of memory.
 pub(crate) fn rename_module(
     alloc: Global,
-    module: &Program,
+    program: &Program,
     mentions: &[Mention<'_>],
     new: &NewNames,
 ) -> Result<Program, AllocError>
-    requires mentions { mention_views mentions.now ≡ mentions_of module.now }
+    requires mentions { mention_views mentions.now ≡ mentions_of program.now }
     requires identifiers { AreIdentifiers new.now.names.items }
     requires short { AreShort new.now.names.items }
-    ensures renamed { IfOk result (λ u. IsRenamed (alone module.now) (alone u)) }
-    ensures names { IfOk result (λ u. names (alone u) ≡ chosen (texts new.now) (map (choice_by new.now) (mentions_of module.now)) (names (alone module.now))) }
+    ensures renamed { IfOk result (λ u. IsRenamed (alone program.now) (alone u)) }
+    ensures names { IfOk result (λ u. names (alone u) ≡ chosen (texts new.now) (map (choice_by new.now) (mentions_of program.now)) (names (alone program.now))) }
     ensures program { IfOk result (λ u. IsProgram u) }
 {
     let choices = choices(alloc, new, mentions)?;
-    let copy = Program::from_root(module.root().try_clone(alloc)?);
+    let copy = Program::from_root(program.root().try_clone(alloc)?);
     rename(alloc, copy, choices.as_slice(), new.names.as_slice())
 }

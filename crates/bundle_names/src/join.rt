@@ -48,13 +48,13 @@ fn append<'t>(
     names: &Names<'t>,
     given: &mut Given<'t>,
     program: &Program,
-    module: &Module<'t>,
+    surveyed: &Module<'t>,
 ) -> Result<(), AllocError>
-    requires mentions { module_view module.now ≡ mentions_of program.now }
+    requires mentions { module_view surveyed.now ≡ mentions_of program.now }
     requires bare { IsTrue (is_bare_module program.now) }
     ensures { OnOk result ((all : Modules) (ts : List Tree) → HoldsNames all names.now → AreJoined all ts given.old bodies.old → AreJoined all (ts ++ program.now ∷ []) given.new bodies.new) }
 {
-    let mentions = module.mentions.as_slice();
+    let mentions = surveyed.mentions.as_slice();
     let new = new_names(alloc, names, given, mentions)?;
     let renamed = rename_module(alloc, program, mentions, &new)?;
     put_names(&mut given.roots, Use::Root, mentions)?;

@@ -13,9 +13,9 @@ use crate::given::Given;
 use crate::names::Names;
 use std::alloc::{AllocError, Global};
 
-// A name with its number.
+// A name that is not taken, with its number.
 #[derive(Drop)]
-struct Numbered {
+struct Untaken {
     number: u32,
     name: String,
 }
@@ -36,13 +36,13 @@ fn is_taken(names: &Names<'_>, given: &Given<'_>, name: &str) -> bool
 
 // The name with the least number past the one that was tried last under which it isn't taken. Err is want of memory,
 // or of numbers.
-fn untaken(
+fn find_untaken(
     alloc: Global,
     names: &Names<'_>,
     given: &Given<'_>,
     name: &str,
     tried: u32,
-) -> Result<Numbered, AllocError>
+) -> Result<Untaken, AllocError>
     ensures name { IfOk result (λ r. string_bytes r.name ≡ new.numbered name.now r.number) }
     ensures later { IfOk result (λ r. tried < r.number) }
     ensures free { IfOk result (λ r. IsFalse (is_taken_by names.now given.now (new.numbered name.now r.number))) }
@@ -52,7 +52,7 @@ fn untaken(
         let number = last + 1;
         let candidate = numbered(alloc, name, number)?;
         if !is_taken(names, given, candidate.as_str()) {
-            return Ok(Numbered {
+            return Ok(Untaken {
                 number,
                 name: candidate,
             });
@@ -84,7 +84,7 @@ pub(crate) fn give<'t>(
     ensures short { IfOk result (λ s. length (string_bytes s) < 2 ^ 32) }
 {
     let tried = last_tried(given, name);
-    let new = untaken(alloc, names, given, name, tried)?;
+    let new = find_untaken(alloc, names, given, name, tried)?;
     if new.name.len() > 4_294_967_295 {
         return Err(AllocError);
     }

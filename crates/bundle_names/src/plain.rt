@@ -5,9 +5,10 @@ ghost use Rattle.std.specs.List.{list_any};
 ghost use Rattle.bundle_names.specs.Views.{mention_view};
 ghost use Rattle.bundle_rules.specs.Joined as joined;
 ghost use Rattle.bundle_rules.specs.Plain as spec;
-ghost use Rattle.tree_nodes.specs.Look.{item_at};
 ghost use Rattle.tree_nodes.specs.Kinds.{is_in};
 ghost use Rattle.tree_nodes.specs.Standing.{module_declarations};
+ghost use Rattle.tree_nodes.specs.Views.{item_of, part_of};
+ghost use Rattle.tree_places.specs.Places.{list_items};
 
 use crate::mention::Mention;
 use tree_nodes::roles::{empty_at, word_at};
@@ -31,7 +32,10 @@ fn has_linked(root: &Node) -> bool
     }
 }
 
-fn has_linked_in(field: &Field) -> bool {
+#[tactic(auto, unfolding(tree_places::specs::Places::list_items, bundle_rules::specs::Plain::is_linked))]
+fn has_linked_in(field: &Field) -> bool
+    ensures { result ≡ spec.is_linked (list_items (part_of field.now)) }
+{
     match field {
         Field::List(items) => is_linked(items),
         _ => false,
@@ -53,13 +57,17 @@ fn is_linked(items: &NodeList) -> bool
     false
 }
 
-fn is_linked_item(item: &Option<Node>) -> bool {
+#[tactic(auto, unfolding(bundle_rules::specs::Plain::is_linked))]
+fn is_linked_item(item: &Option<Node>) -> bool
+    ensures { result ≡ spec.is_linked (item_of item.now) }
+{
     match item {
         Some(node) => links(node.kind),
         None => false,
     }
 }
 
+#[tactic(auto, unfolding(tree_nodes::specs::Kinds::is_in, tree_nodes::specs::Kinds::is_kind))]
 fn links(kind: Kind) -> bool
     ensures { result ≡ is_in kind module_declarations }
 {

@@ -1,6 +1,6 @@
 //! What is asked of each module before they are joined.
 
-ghost use Rattle.std.specs.Prelude.{◌≡◌, IfErr, IfOk, IsFalse, map};
+ghost use Rattle.std.specs.Prelude.{◌≡◌, ◌++◌, ◌∷◌, [], IfErr, IfOk, IsFalse, OnOk};
 ghost use Rattle.std.specs.List.{list_all, list_any};
 ghost use Rattle.bundle_names.specs.Causes.{AreModulesOf, IsCauseAtFirst, IsModuleOf, are_too_large};
 ghost use Rattle.place_list.specs.Bounds.{IsBounded};
@@ -55,6 +55,16 @@ fn module_of<'t>(
     })
 }
 
+// Appends a module. Err is want of memory.
+fn put<'t>(modules: &mut Vec<Module<'t>>, module: Module<'t>) -> Result<(), AllocError>
+    ensures { OnOk result (modules.new.items ≡ modules.old.items ++ «module» ∷ []) }
+{
+    match modules.push(module) {
+        Ok(()) => Ok(()),
+        Err(_) => Err(AllocError),
+    }
+}
+
 /// What each module is, if they aren't too large together.
 pub(crate) fn survey<'t>(
     alloc: Global,
@@ -73,7 +83,8 @@ pub(crate) fn survey<'t>(
         if nodes >= NODES {
             return Err(BundleError::TooLarge);
         }
-        surveyed.push(module_of(alloc, root, list)?)?;
+        let module = module_of(alloc, root, list)?;
+        put(&mut surveyed, module)?;
     }
     Ok(surveyed)
 }
