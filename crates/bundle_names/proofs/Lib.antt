@@ -13,3 +13,4 @@ pub mod NewNamesInTurn
 pub mod BareModules
 pub mod JoinedPrograms
 pub mod BodiesInTurn
+pub mod Bundled
