@@ -1,5 +1,5 @@
 -- A program that is a module without a hashbang has its statements alone.
-use Rattle.std.proofs.Common.{◌≡◌, ℕ, Bool, true, false, ◌&&◌, cond, not, suc, nat_eq, List, [], ◌∷◌, Option, Some, None, refl, sym, ap, ap₂, subst, ◌∙◌}
+use Rattle.std.proofs.Common.{◌≡◌, ℕ, Bool, true, false, ◌&&◌, cond, not, nat_eq, List, [], ◌∷◌, Option, Some, None, refl, sym, ap, ap₂, subst, ◌∙◌}
 use Rattle.std.proofs.lemmas.Bool.{and_parts, both_ways, eqb-true}
 use Rattle.bundle_rules.specs.Joined.{body}
 use Rattle.bundle_rules.specs.Moves.{IsBare}
@@ -44,21 +44,21 @@ word_no_list w holes f = none_some _ (f.1 [] null None (λ h. Some done))
 
 -- ---- the three fields of a Program
 
-is_word : (a : Atom) (n : ℕ) → nat_eq (word_of (atom a done)) (suc n) ≡ true → a ≡ word (suc n)
-is_word empty n e = absurd (both_ways _ e refl)
-is_word (flag b) n e = absurd (both_ways _ e refl)
-is_word (word k) n e = ap word (eqb-true _ _ e)
-is_word (text x) n e = absurd (both_ways _ e refl)
-is_word (units us) n e = absurd (both_ways _ e refl)
-is_word (whole k) n e = absurd (both_ways _ e refl)
+is_word : (a : Atom) → nat_eq (word_of (atom a done)) 1 ≡ true → a ≡ word 1
+is_word empty e = absurd (both_ways false refl e)
+is_word (flag b) e = absurd (both_ways false refl e)
+is_word (word k) e = ap word (eqb-true _ _ e)
+is_word (text x) e = absurd (both_ways false refl e)
+is_word (units us) e = absurd (both_ways false refl e)
+is_word (whole k) e = absurd (both_ways false refl e)
 
 is_blank : (a : Atom) → is_empty (atom a done) ≡ true → a ≡ empty
 is_blank empty e = refl
-is_blank (flag b) e = absurd (both_ways _ e refl)
-is_blank (word k) e = absurd (both_ways _ e refl)
-is_blank (text x) e = absurd (both_ways _ e refl)
-is_blank (units us) e = absurd (both_ways _ e refl)
-is_blank (whole k) e = absurd (both_ways _ e refl)
+is_blank (flag b) e = absurd (both_ways false refl e)
+is_blank (word k) e = absurd (both_ways false refl e)
+is_blank (text x) e = absurd (both_ways false refl e)
+is_blank (units us) e = absurd (both_ways false refl e)
+is_blank (whole k) e = absurd (both_ways false refl e)
 
 nothing_more : (x : Parts) → FitFields x [] → x ≡ done
 nothing_more done f = refl
@@ -69,13 +69,13 @@ nothing_more (many items more) f = absurd f
 third_field : (x : Parts) (c : Column) → FitFields x (c ∷ []) → is_empty (part x 0) ≡ true → x ≡ atom empty done
 third_field done c f e = absurd f
 third_field (atom a more) c f e = ap₂ atom (is_blank a e) (nothing_more more f.2)
-third_field (child k s t fields more) c f e = absurd (both_ways _ e refl)
-third_field (many items more) c f e = absurd (both_ways _ e refl)
+third_field (child k s t fields more) c f e = absurd (both_ways false refl e)
+third_field (many items more) c f e = absurd (both_ways false refl e)
 
 second_field : (x : Parts) (key : List ℕ) (w : Words) (c : Column) → FitFields x (other key (Word w) ∷ c ∷ []) → nat_eq (word_of (part x 0)) 1 ≡ true → is_empty (part x 1) ≡ true
     → x ≡ atom (word 1) (atom empty done)
 second_field done key w c f e h = absurd f
-second_field (atom a more) key w c f e h = ap₂ atom (is_word a 0 e) (third_field more c f.2 h)
+second_field (atom a more) key w c f e h = ap₂ atom (is_word a e) (third_field more c f.2 h)
 second_field (child k s t fields more) key w c f e h = absurd (word_no_node w f.0)
 second_field (many items more) key w c f e h = absurd (word_no_list w f.0 f.1)
 

@@ -1,12 +1,13 @@
 -- Programs that are modules without hashbangs, one after another, are a program, if they are small enough together.
-use Rattle.std.proofs.Common.{◌≡◌, ◌<◌, ◌≤◌, ◌^◌, ℕ, zero, suc, ◌+◌, max, Bool, true, false, ◌&&◌, ◌||◌, cond, List, [], ◌∷◌, codes, Option, Some, None, map, sum, refl, sym, ap, ap₂, subst, ◌∙◌, arith}
+use Rattle.std.proofs.Common.{◌≡◌, ◌<◌, ◌≤◌, ◌^◌, ℕ, zero, suc, ◌+◌, max, Bool, true, false, ◌&&◌, ◌||◌, cond, List, [], ◌∷◌, codes, IsUtf8, Option, Some, None, option_and_then, option_map, map, sum, refl, sym, ap, ap₂, subst, ◌∙◌, arith}
 use Rattle.std.proofs.lemmas.Bool.{and_from, and_parts, both_ways}
+use Rattle.std.proofs.lemmas.Str.{IsUtf8-from_ascii}
 use Rattle.std.specs.List.{AllByRecursion}
 use Rattle.bundle_names.proofs.BareModules.{many_without_holes}
 use Rattle.bundle_names.specs.Joining.{IsBareProgram}
 use Rattle.bundle_rules.specs.Joined.{bodies, body, joined, module_of}
 use Rattle.bundle_rules.specs.Moves.{IsBare}
-use Rattle.json_text.specs.Json.{Json}
+use Rattle.json_text.proofs.Units.{AreCodeUnits-units_of, text_of_units-units_of}
 use Rattle.tree_core.proofs.Fits.{FitFields, FitItems, Fits, FitsAtom, TakesList}
 use Rattle.tree_core.proofs.FitsBack.{tree_back}
 use Rattle.tree_core.proofs.ReadTrees.{tree_of-placed}
@@ -14,19 +15,20 @@ use Rattle.tree_core.proofs.ReadsBack.{shape_read, tree_fits}
 use Rattle.tree_core.specs.LongestText.{longest_text}
 use Rattle.tree_core.specs.NodeCount.{node_count, nodes_in}
 use Rattle.tree_core.specs.Program.{IsProgram}
+use Rattle.tree_core.specs.Reading.{one, word_number}
 use Rattle.tree_core.specs.Values.{value_of}
 use Rattle.tree_core.specs.Widest.{widest_list}
 use Rattle.tree_nodes.specs.Along.{all, each}
 use Rattle.tree_nodes.specs.Look.{onto, parts_len}
 use Rattle.tree_nodes.specs.Standing.{group_admits, is_placed, is_sound, stands}
-use Rattle.tree_nodes.specs.Table.{Column, inner, node, row}
-use Rattle.tree_nodes.specs.Tree.{Parts, Tree, alone, atom, child, done, empty, many, word}
+use Rattle.tree_nodes.specs.Table.{Column, inner, node, row, word_list}
+use Rattle.tree_nodes.specs.Tree.{Parts, Text, Tree, alone, atom, child, done, empty, many, word}
 use Rattle.tree_nodes.specs.declared.kind.Kind.{Kind}
 use Rattle.tree_nodes.specs.declared.kind.Kind.TheVariants.{Program}
-use Rattle.tree_nodes.specs.declared.table.Class.TheVariants.{Many}
+use Rattle.tree_nodes.specs.declared.table.Class.TheVariants.{Many, Word}
 use Rattle.tree_nodes.specs.declared.table.Group.TheVariants.{ModuleItems}
-use Rattle.tree_nodes.specs.declared.table.Role.{Role}
-use Rattle.tree_nodes.specs.declared.table.Role.TheVariants.{Plain, Read}
+use Rattle.tree_nodes.specs.declared.table.Role.TheVariants.{Read}
+use Rattle.tree_nodes.specs.declared.table.Words.TheVariants.{SourceTypes}
 use Rattle.tree_places.specs.Open.{all_open}
 
 -- ---- each field is one that its column can be read as
@@ -42,9 +44,19 @@ unfolding bodies
 bodies_fit [] f = tt
 bodies_fit (u ∷ us) f = fits_onto (body u) (bodies us) false f.0 (bodies_fit us f.1)
 
+-- the word `module`
+utf8 : IsUtf8 (codes "module")
+utf8 = IsUtf8-from_ascii (codes "module") (omega arith, (omega arith, (omega arith, (omega arith, (omega arith, (omega arith, tt))))))
+
+module_word : FitsAtom (Word SourceTypes) (word 1)
+module_word = (
+  λ t ts. ap (λ (o : Option Text). option_map (λ (n : ℕ). one (word n)) (option_and_then (word_number (word_list SourceTypes)) o)) (text_of_units-units_of (codes "module") utf8),
+  AreCodeUnits-units_of (codes "module") utf8,
+)
+
 module_fits : (x : Parts) → FitItems x false → Fits (module_of x)
 unfolding module_of
-module_fits x f = ((omega arith, omega arith), (false, (refl, λ k d t ts. refl), f, ((λ t ts. refl), tt), tt, ((λ t ts. refl), tt), tt, tt))
+module_fits x f = ((omega arith, omega arith), (false, (refl, λ k d t ts. refl), f, (module_word, tt, (((λ t ts. refl), tt), tt, tt))))
 
 -- ---- each node stands where it may
 

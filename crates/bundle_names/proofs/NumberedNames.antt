@@ -32,7 +32,7 @@ end_parts : (k : ℕ) → k < 2 ^ 64 → list_all is_identifier_part (end_of k) 
 end_parts k h = all_digits is_identifier_part digit_part k h
 
 more_parts : (cs ds : List ℕ) → are_identifier_characters cs ≡ true → list_all is_identifier_part ds ≡ true → are_identifier_characters (cs ++ ds) ≡ true
-more_parts [] ds e f = absurd (both_ways _ e refl)
+more_parts [] ds e f = absurd (both_ways false refl e)
 more_parts (c ∷ cs) ds e f =
     let p = and_parts (is_identifier_start c) (list_all is_identifier_part cs) e in
     and_from _ _ p.0 (list_all-append is_identifier_part cs ds ∙ and_from _ _ p.1 f)
