@@ -8,6 +8,7 @@ use Rattle.bundle_names.specs.Joining.{IsBareProgram}
 use Rattle.bundle_rules.specs.Joined.{bodies, body, joined, module_of}
 use Rattle.bundle_rules.specs.Moves.{IsBare}
 use Rattle.json_text.proofs.Units.{AreCodeUnits-units_of, text_of_units-units_of}
+use Rattle.tree_core.proofs.AsciiTexts.{ascii_text}
 use Rattle.tree_core.proofs.Fits.{FitFields, FitItems, Fits, FitsAtom, TakesList}
 use Rattle.tree_core.proofs.FitsBack.{tree_back}
 use Rattle.tree_core.proofs.ReadTrees.{tree_of-placed}
@@ -46,7 +47,7 @@ bodies_fit (u ∷ us) f = fits_onto (body u) (bodies us) false f.0 (bodies_fit u
 
 -- the word `module`
 utf8 : IsUtf8 (codes "module")
-utf8 = IsUtf8-from_ascii (codes "module") (omega arith, (omega arith, (omega arith, (omega arith, (omega arith, (omega arith, tt))))))
+utf8 = IsUtf8-from_ascii (codes "module") (ascii_text (codes "module") refl)
 
 module_word : FitsAtom (Word SourceTypes) (word 1)
 module_word = (

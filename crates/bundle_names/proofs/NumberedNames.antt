@@ -1,13 +1,14 @@
 -- A name with `$` and a number is an identifier name, as it was without, and numbers that are tried in turn give the least.
-use Rattle.std.proofs.Common.{◌≡◌, ◌<◌, ◌≤◌, ◌^◌, ◌%◌, ℕ, ◌+◌, Bool, true, false, ◌&&◌, List, [], ◌∷◌, ◌++◌, length, codes, decimal, IsUtf8, refl, sym, ap, ap₂, subst, ◌∙◌, arith}
+use Rattle.std.proofs.Common.{◌≡◌, ◌<◌, ◌^◌, ◌%◌, ℕ, ◌+◌, Bool, true, false, ◌&&◌, List, [], ◌∷◌, ◌++◌, codes, decimal, IsUtf8, refl, ap, ◌∙◌, arith}
 use Rattle.std.proofs.lemmas.Bool.{and_from, and_parts, both_ways}
 use Rattle.std.proofs.lemmas.Bool.Decides.{nat_tests}
 use Rattle.std.proofs.lemmas.Fmt.{IsAscii-decimal, decimal_by_steps}
 use Rattle.std.proofs.lemmas.List.Folds.{list_all-append}
-use Rattle.std.proofs.lemmas.Str.{IsUtf8-append, IsUtf8-from_ascii, chars-IsAscii, chars-append}
+use Rattle.std.proofs.lemmas.Str.{IsAscii-append, chars-IsAscii, chars-append}
 use Rattle.std.specs.List.{list_all}
 use Rattle.std.specs.Str.{IsAscii, chars}
 use Rattle.bundle_rules.specs.NewNames.{numbered}
+use Rattle.tree_core.proofs.AsciiTexts.{ascii_text}
 use Rattle.syntax_lex.specs.Identifier.{are_identifier_characters, is_identifier_name, is_identifier_part, is_identifier_start}
 use Rattle.tree_nodes.specs.Tree.{Text}
 
@@ -26,7 +27,7 @@ abbrev end_of : ℕ → Text
 end_of k = codes "$" ++ decimal k
 
 end_ascii : (k : ℕ) → k < 2 ^ 64 → IsAscii (end_of k)
-end_ascii k h = (omega arith, IsAscii-decimal k h)
+end_ascii k h = IsAscii-append (codes "$") (decimal k) (ascii_text (codes "$") refl) (IsAscii-decimal k h)
 
 end_parts : (k : ℕ) → k < 2 ^ 64 → list_all is_identifier_part (end_of k) ≡ true
 end_parts k h = all_digits is_identifier_part digit_part k h
