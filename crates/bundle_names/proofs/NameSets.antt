@@ -21,13 +21,6 @@ pub or_assoc : (a b c : Bool) → ((a || b) || c) ≡ (a || (b || c))
 or_assoc true b c = refl
 or_assoc false b c = refl
 
--- what an insertion does, as its clause says it
-pub put_told : (same old : Bool) → cond same true old ≡ (old || same)
-put_told true true = refl
-put_told true false = refl
-put_told false true = refl
-put_told false false = refl
-
 pub one_named_more : (test : Mention → Bool) (ms : List Mention) (m : Mention) (y : Text) → is_named test (ms ++ m ∷ []) y ≡ (is_named test ms y || (test m && same_name m.name y))
 unfolding is_named
 one_named_more test ms m y =
