@@ -99,7 +99,7 @@ pub one_start_more : (all before : Modules) (given : List Text) (ts us : List Tr
     → (items : List (Option Tree)) → items_of items ≡ bodies us → (t : Tree) → starts_from 0 (ts ++ t ∷ []) ≡ starts_from 0 ts ++ length items ∷ []
 one_start_more all before given ts us last a b c items e t =
     let long : length items ≡ 0 + many_before ts = (let p : parts_len (items_of items) ≡ length items = parts_len-items_of items in
-        let q : parts_len (items_of items) ≡ many_before ts = ap parts_len e ∙ bodies_len us ∙ (all_alike all before given ts us last a b c).long in omega (arith, p, q)) in
+    let q : parts_len (items_of items) ≡ many_before ts = ap parts_len e ∙ bodies_len us ∙ (all_alike all before given ts us last a b c).long in omega (arith, p, q)) in
     starts_and 0 ts t ∙ ap (λ (k : ℕ). starts_from 0 ts ++ k ∷ []) (sym long)
 
 -- ---- few enough nodes

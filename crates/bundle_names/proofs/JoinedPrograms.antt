@@ -100,7 +100,7 @@ body_placed : (u : Tree) → IsProgram u → IsBare u → stands (body u) (all b
 body_placed u p b =
     let placed : is_placed u ≡ true = (shape_read (value_of u) u p.0).1 in
     let kind : is_placed (record { kind = Program; start = u.start; stop = u.stop; fields = u.fields }) ≡ true =
-        subst (λ (k : Kind). is_placed (record { kind = k; start = u.start; stop = u.stop; fields = u.fields }) ≡ true) b.0 placed in
+    subst (λ (k : Kind). is_placed (record { kind = k; start = u.start; stop = u.stop; fields = u.fields }) ≡ true) b.0 placed in
     let fields = subst (λ (x : Parts). is_placed (record { kind = Program; start = u.start; stop = u.stop; fields = x }) ≡ true) b.1 kind in
     sym (stands_beside (body u) (body u) done) ∙ placed_items (body u) u.start u.stop fields
 

@@ -12,9 +12,12 @@ parts_and all before given [] [] last t u xs e p =
     (xs, subst (λ (b : Modules). IsPart all b given t u xs) (append-nil before) (subst (λ (g : List Text). IsPart all (before ++ []) g t u xs) (sym e) p), ap (λ (g : List Text). g ++ xs) e)
 parts_and all before given [] (v ∷ us) last t u xs a p = absurd a
 parts_and all before given (s ∷ ts) [] last t u xs a p = absurd a
-parts_and all before given (s ∷ ts) (v ∷ us) last t u xs a p =
-    (a.0, a.1, parts_and all (before ++ mentions_of s ∷ []) (given ++ a.0) ts us last t u xs a.2
-    (subst (λ (b : Modules). IsPart all b last t u xs) (sym (append_assoc before (mentions_of s ∷ []) (map mentions_of ts))) p))
+parts_and all before given (s ∷ ts) (v ∷ us) last t u xs a p = (
+  a.0,
+  a.1,
+  parts_and all (before ++ mentions_of s ∷ []) (given ++ a.0) ts us last t u xs a.2
+      (subst (λ (b : Modules). IsPart all b last t u xs) (sym (append_assoc before (mentions_of s ∷ []) (map mentions_of ts))) p),
+)
 
 pub new_names_and : (all : Modules) (given : List Text) (ms : List Mention) (xs : List Text) (m : Mention) (x : Text) → AreNewNames all given ms xs → IsNewName all (given ++ xs) m.name x
     → AreNewNames all given (ms ++ m ∷ []) (xs ++ x ∷ [])

@@ -23,10 +23,7 @@ pub(crate) fn body_of(alloc: Global, program: Program) -> Vec<Option<Node>>
 }
 
 /// The module of these statements. Err is want of memory.
-pub(crate) fn module_of(
-    alloc: Global,
-    statements: Vec<Option<Node>>,
-) -> Result<Node, AllocError>
+pub(crate) fn module_of(alloc: Global, statements: Vec<Option<Node>>) -> Result<Node, AllocError>
     ensures { IfOk result (λ t. t ≡ joined.module_of (items_of statements.items)) }
 {
     let mut fields = Vec::with_capacity(alloc, 3)?;

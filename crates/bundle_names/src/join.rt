@@ -94,7 +94,14 @@ fn bodies_of(
     };
     for i in 0..programs.len() {
         if i < modules.len() {
-            append(alloc, &mut bodies, &names, &mut given, &programs[i], &modules[i])?;
+            append(
+                alloc,
+                &mut bodies,
+                &names,
+                &mut given,
+                &programs[i],
+                &modules[i],
+            )?;
         }
     }
     Ok(bodies)

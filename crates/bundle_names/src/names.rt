@@ -63,10 +63,7 @@ pub(crate) fn put_names<'t>(
 }
 
 /// The names of all modules. Err is want of memory.
-pub(crate) fn names_of<'t>(
-    alloc: Global,
-    modules: &[Module<'t>],
-) -> Result<Names<'t>, AllocError>
+pub(crate) fn names_of<'t>(alloc: Global, modules: &[Module<'t>]) -> Result<Names<'t>, AllocError>
     ensures { IfOk result (λ n. HoldsNames (modules_in modules.now) n) }
 {
     let mut names = Names {

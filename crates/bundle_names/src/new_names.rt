@@ -30,8 +30,7 @@ pub(crate) struct NewNames {
 fn needs_new_name(names: &Names<'_>, given: &Given<'_>, mention: &Mention<'_>) -> bool
     ensures { (all before : Modules) (names_given : List Text) → HoldsNames all names.now → HoldsGiven all before names_given given.now → result ≡ new_names.needs_new_name all before (mention_view mention.now) }
 {
-    mention.root
-        && (given.roots.contains(mention.name) || names.unresolved.contains(mention.name))
+    mention.root && (given.roots.contains(mention.name) || names.unresolved.contains(mention.name))
 }
 
 // Adds the new name of a binding that needs one.

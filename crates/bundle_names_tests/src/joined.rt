@@ -52,8 +52,12 @@ fn modules_are_joined(rt: HostRuntime) -> Result<(), Fail> {
     let none: [&str; 0] = [];
     assert!(rt; joined(alloc, &none)?.as_str() == "");
     assert!(rt; joined(alloc, &[DECLARES, SHORT])?.as_str() == "x;x;x$1;x;x$1; 0 2");
-    assert!(rt; joined(alloc, &[DECLARES, DECLARES, DECLARES])?.as_str() == "x;x;x$1;x$1;x$2;x$2; 0 2 4");
-    assert!(rt; joined(alloc, &[DECLARES, DECLARES, NUMBERED])?.as_str() == "x;x;x$2;x$2;x$1; 0 2 4");
+    assert!(rt;
+        joined(alloc, &[DECLARES, DECLARES, DECLARES])?.as_str() == "x;x;x$1;x$1;x$2;x$2; 0 2 4"
+    );
+    assert!(rt;
+        joined(alloc, &[DECLARES, DECLARES, NUMBERED])?.as_str() == "x;x;x$2;x$2;x$1; 0 2 4"
+    );
     assert!(rt; joined(alloc, &[DECLARES, REFERS])?.as_str() == "x$1;x$1;x; 0 2");
     assert!(rt; joined(alloc, &[REFERS, DECLARES])?.as_str() == "x;x$1;x$1; 0 1");
     assert!(rt; joined(alloc, &[DECLARES, INSIDE])?.as_str() == "x;x;x;x; 0 2");
