@@ -57,7 +57,7 @@ fn module_of<'t>(
 
 // Appends a module. Err is want of memory.
 fn put<'t>(modules: &mut Vec<Module<'t>>, module: Module<'t>) -> Result<(), AllocError>
-    ensures { OnOk result (modules.new.items ≡ modules.old.items ++ «module» ∷ []) }
+    ensures { OnOk result (modules.new.items ≡ modules.old.items ++ «module».entry ∷ []) }
 {
     match modules.push(module) {
         Ok(()) => Ok(()),
