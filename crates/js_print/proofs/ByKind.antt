@@ -1,8 +1,7 @@
 -- What the shape of a node is like, by its kind.
 use Rattle.std.proofs.Common.{◌≡◌, ℕ, suc, ◌<◌, ◌≤◌, Bool, true, false, not, ◌&&◌, ◌==◌, Option, Some, None, IfSome, option_map, slice_get, inl, inr, if◌then◌else◌, refl, sym, ap, ◌∙◌, arith}
 use Rattle.std.specs.Prelude.{nat_eq, nat_le}
-use Rattle.std.proofs.lemmas.Bool.{eqb-true, le-leb}
-use Rattle.std.proofs.lemmas.Bool.Decides.{leb_tells}
+use Rattle.std.proofs.lemmas.Bool.{eqb-true, eqb-false, le-leb}
 use Rattle.syntax_lex.specs.declared.operator.binary.BinaryOperator.{BinaryOperator}
 use Rattle.syntax_lex.specs.declared.operator.logical.LogicalOperator.{LogicalOperator}
 use Rattle.syntax_lex.specs.declared.operator.update.UpdateOperator.{UpdateOperator}
@@ -11,7 +10,7 @@ use Rattle.tree_nodes.specs.Literals.{case_of}
 use Rattle.tree_nodes.specs.Tree.{Parts, flag_of, part, text_of, word_of}
 use Rattle.tree_nodes.specs.declared.kind.Kind.{Kind}
 use Rattle.tree_nodes.specs.declared.kind.Kind.TheVariants.{ArrayExpression, AssignmentExpression, BinaryExpression, CallExpression, ConditionalExpression, Identifier, Literal, LogicalExpression, MemberExpression, NewExpression, SequenceExpression, ThisExpression, UnaryExpression, UpdateExpression}
-use Rattle.js_grammar.specs.Expressions.{binary_operators, in_sequence, literal_operand, logical_operators, plain_name, shape_at, shape_from, shapes_at, target, three, two, unreserved, updated}
+use Rattle.js_grammar.specs.Expressions.{assignment_operators, binary_operators, in_sequence, literal_operand, logical_operators, plain_name, shape_at, shape_from, shapes_at, target, three, two, unary_operators, unreserved, update_operators, updated}
 use Rattle.js_grammar.specs.Printed.{is_coalesce, is_over_call, level}
 use Rattle.js_grammar.specs.Shapes.{Array, Assign, Binary, Call, Conditional, Index, Infix, Logical, Member, New, One, Operator, Postfix, Prefix, Sequence, Shape, Shapes, Unary, also, is_target, none}
 use Rattle.js_print.specs.Kinds.{binary_level, level_by_kind, logical_level, of_kind}
@@ -76,61 +75,90 @@ logical_told (Some o) (Some x) (Some y) = record { level_is = refl; member_is = 
 
 pub told : (k : Kind) (fields : Parts) → IfSome (of_kind k fields) (Told (level_by_kind k fields) (is_kind k MemberExpression))
 unfolding shape_from level_by_kind is_kind
-told Identifier fields = of_map One _ _ (λ o. record { level_is = refl; member_is = refl })
-told Literal fields = of_map One _ _ (λ o. record { level_is = refl; member_is = refl })
+told Identifier fields = of_map One (Told 23 false) (unreserved (text_of fields)) (λ o. record { level_is = refl; member_is = refl })
+told Literal fields = of_map One (Told 23 false) (literal_operand fields) (λ o. record { level_is = refl; member_is = refl })
 told ThisExpression fields = record { level_is = refl; member_is = refl }
-told ArrayExpression fields = of_map Array _ _ (λ o. record { level_is = refl; member_is = refl })
-told UnaryExpression fields = of_either _ (flag_of (part fields 1)) _ _ (of_two Unary _ _ _ (λ o s. record { level_is = refl; member_is = refl })) tt
-told UpdateExpression fields = of_two (updated (flag_of (part fields 1))) _ _ _ (update_told (flag_of (part fields 1)))
-told BinaryExpression fields = binary_told (slice_get binary_operators (word_of (part fields 1))) _ _
-told LogicalExpression fields = logical_told (slice_get logical_operators (word_of (part fields 1))) _ _
-told AssignmentExpression fields = of_three _ _ _ _ _ (λ o x y. record { level_is = refl; member_is = refl })
-told ConditionalExpression fields = of_three _ _ _ _ _ (λ x y z. record { level_is = refl; member_is = refl })
-told CallExpression fields = of_either _ (flag_of (part fields 2)) _ _ tt (of_two Call _ _ _ (λ s ss. record { level_is = refl; member_is = refl }))
-told NewExpression fields = of_two New _ _ _ (λ s ss. record { level_is = refl; member_is = refl })
+told ArrayExpression fields = of_map Array (Told 23 false) (shapes_at fields 0) (λ o. record { level_is = refl; member_is = refl })
+told UnaryExpression fields =
+    let operator = slice_get unary_operators (word_of (part fields 0)) in
+    of_either (Told 18 false) (flag_of (part fields 1)) (two Unary operator (shape_at fields 2)) None (of_two Unary (Told 18 false) operator (shape_at fields 2) (λ o s. record { level_is = refl; member_is = refl })) tt
+told UpdateExpression fields =
+    let prefix = flag_of (part fields 1) in
+    of_two (updated prefix) (Told (if prefix then 18 else 19) false) (slice_get update_operators (word_of (part fields 0))) (target (shape_at fields 2)) (update_told prefix)
+told BinaryExpression fields = binary_told (slice_get binary_operators (word_of (part fields 1))) (shape_at fields 0) (shape_at fields 2)
+told LogicalExpression fields = logical_told (slice_get logical_operators (word_of (part fields 1))) (shape_at fields 0) (shape_at fields 2)
+told AssignmentExpression fields =
+    of_three Assign (Told 4 false) (slice_get assignment_operators (word_of (part fields 0))) (target (shape_at fields 1)) (shape_at fields 2) (λ o x y. record { level_is = refl; member_is = refl })
+told ConditionalExpression fields =
+    of_three Conditional (Told 5 false) (shape_at fields 0) (shape_at fields 1) (shape_at fields 2) (λ x y z. record { level_is = refl; member_is = refl })
+told CallExpression fields =
+    of_either (Told 21 false) (flag_of (part fields 2)) None (two Call (shape_at fields 0) (shapes_at fields 1)) tt (of_two Call (Told 21 false) (shape_at fields 0) (shapes_at fields 1) (λ s ss. record { level_is = refl; member_is = refl }))
+told NewExpression fields = of_two New (Told 22 false) (shape_at fields 0) (shapes_at fields 1) (λ s ss. record { level_is = refl; member_is = refl })
 told MemberExpression fields =
-    of_either _ (flag_of (part fields 3)) _ _ tt
-      (of_either _ (flag_of (part fields 2)) _ _ (of_two Index _ _ _ (λ s x. record { level_is = refl; member_is = refl })) (of_two Member _ _ _ (λ s w. record { level_is = refl; member_is = refl })))
-told SequenceExpression fields = of_sequence _ _ (λ x ss. record { level_is = refl; member_is = refl })
+    let index = two Index (shape_at fields 0) (shape_at fields 1) in
+    let name = two Member (shape_at fields 0) (plain_name (part fields 1)) in
+    of_either (Told 22 true) (flag_of (part fields 3)) None (if flag_of (part fields 2) then index else name) tt
+      (of_either (Told 22 true) (flag_of (part fields 2)) index name
+        (of_two Index (Told 22 true) (shape_at fields 0) (shape_at fields 1) (λ s x. record { level_is = refl; member_is = refl }))
+        (of_two Member (Told 22 true) (shape_at fields 0) (plain_name (part fields 1)) (λ s w. record { level_is = refl; member_is = refl })))
+told SequenceExpression fields = of_sequence (Told 1 false) (shapes_at fields 0) (λ x ss. record { level_is = refl; member_is = refl })
 told _ fields = tt
 
 -- ---- calls, and members over one
 
-pub call_is_over : (fields : Parts) → IfSome (of_kind CallExpression fields) (λ s. true ≡ is_over_call s)
-unfolding shape_from
-call_is_over fields = of_either _ (flag_of (part fields 2)) _ _ tt (of_two Call _ _ _ (λ s ss. refl))
+abbrev pub IsOver : Bool → Shape → Type 0
+IsOver b s = b ≡ is_over_call s
 
-over_object : {B : Type 0} (f : Shape → B → Shape) (r : Bool) (o : Option Shape) (p : Option B) → ((s : Shape) (b : B) → is_over_call (f s b) ≡ is_over_call s) → IfSome o (λ s. r ≡ is_over_call s) → IfSome (two f o p) (λ s. r ≡ is_over_call s)
+pub call_is_over : (fields : Parts) → IfSome (of_kind CallExpression fields) (IsOver true)
+unfolding shape_from
+call_is_over fields =
+    let called = two Call (shape_at fields 0) (shapes_at fields 1) in
+    of_either (IsOver true) (flag_of (part fields 2)) None called tt (of_two Call (IsOver true) (shape_at fields 0) (shapes_at fields 1) (λ s ss. refl))
+
+over_object : {B : Type 0} (f : Shape → B → Shape) (r : Bool) (o : Option Shape) (p : Option B) → ((s : Shape) (b : B) → is_over_call (f s b) ≡ is_over_call s) → IfSome o (IsOver r) → IfSome (two f o p) (IsOver r)
 over_object f r None p same h = tt
 over_object f r (Some s) None same h = tt
 over_object f r (Some s) (Some b) same h = h ∙ sym (same s b)
 
-pub member_is_over : (fields : Parts) (r : Bool) → IfSome (shape_at fields 0) (λ s. r ≡ is_over_call s) → IfSome (of_kind MemberExpression fields) (λ s. r ≡ is_over_call s)
+pub member_is_over : (fields : Parts) (r : Bool) → IfSome (shape_at fields 0) (IsOver r) → IfSome (of_kind MemberExpression fields) (IsOver r)
 unfolding shape_from
 member_is_over fields r h =
-    of_either _ (flag_of (part fields 3)) _ _ tt
-      (of_either _ (flag_of (part fields 2)) _ _ (over_object Index r _ _ (λ s x. refl) h) (over_object Member r _ _ (λ s w. refl) h))
+    let index = two Index (shape_at fields 0) (shape_at fields 1) in
+    let name = two Member (shape_at fields 0) (plain_name (part fields 1)) in
+    of_either (IsOver r) (flag_of (part fields 3)) None (if flag_of (part fields 2) then index else name) tt
+      (of_either (IsOver r) (flag_of (part fields 2)) index name
+        (over_object Index r (shape_at fields 0) (shape_at fields 1) (λ s x. refl) h)
+        (over_object Member r (shape_at fields 0) (plain_name (part fields 1)) (λ s w. refl) h))
 
-pub other_is_not_over : (k : Kind) (fields : Parts) → (k ≡ CallExpression → ⊥) → (k ≡ MemberExpression → ⊥) → IfSome (of_kind k fields) (λ s. false ≡ is_over_call s)
+updated_is_not_over : (b : Bool) (o : UpdateOperator) (s : Shape) → IsOver false (updated b o s)
+updated_is_not_over true o s = refl
+updated_is_not_over false o s = refl
+
+pub other_is_not_over : (k : Kind) (fields : Parts) → (k ≡ CallExpression → ⊥) → (k ≡ MemberExpression → ⊥) → IfSome (of_kind k fields) (IsOver false)
 unfolding shape_from
-other_is_not_over Identifier fields h g = of_map One _ _ (λ o. refl)
-other_is_not_over Literal fields h g = of_map One _ _ (λ o. refl)
+other_is_not_over Identifier fields h g = of_map One (IsOver false) (unreserved (text_of fields)) (λ o. refl)
+other_is_not_over Literal fields h g = of_map One (IsOver false) (literal_operand fields) (λ o. refl)
 other_is_not_over ThisExpression fields h g = refl
-other_is_not_over ArrayExpression fields h g = of_map Array _ _ (λ o. refl)
-other_is_not_over UnaryExpression fields h g = of_either _ (flag_of (part fields 1)) _ _ (of_two Unary _ _ _ (λ o s. refl)) tt
-other_is_not_over UpdateExpression fields h g = of_two (updated (flag_of (part fields 1))) _ _ _ (not_over (flag_of (part fields 1)))
-  where
-    not_over : (b : Bool) (o : UpdateOperator) (s : Shape) → false ≡ is_over_call (updated b o s)
-    not_over true o s = refl
-    not_over false o s = refl
-other_is_not_over BinaryExpression fields h g = of_three _ _ _ _ _ (λ o x y. refl)
-other_is_not_over LogicalExpression fields h g = of_three _ _ _ _ _ (λ o x y. refl)
-other_is_not_over AssignmentExpression fields h g = of_three _ _ _ _ _ (λ o x y. refl)
-other_is_not_over ConditionalExpression fields h g = of_three _ _ _ _ _ (λ x y z. refl)
+other_is_not_over ArrayExpression fields h g = of_map Array (IsOver false) (shapes_at fields 0) (λ o. refl)
+other_is_not_over UnaryExpression fields h g =
+    let argument = two Unary (slice_get unary_operators (word_of (part fields 0))) (shape_at fields 2) in
+    of_either (IsOver false) (flag_of (part fields 1)) argument None
+      (of_two Unary (IsOver false) (slice_get unary_operators (word_of (part fields 0))) (shape_at fields 2) (λ o s. refl)) tt
+other_is_not_over UpdateExpression fields h g =
+    of_two (updated (flag_of (part fields 1))) (IsOver false) (slice_get update_operators (word_of (part fields 0))) (target (shape_at fields 2))
+      (updated_is_not_over (flag_of (part fields 1)))
+other_is_not_over BinaryExpression fields h g =
+    of_three (λ o x y. Infix (Binary o) x y) (IsOver false) (slice_get binary_operators (word_of (part fields 1))) (shape_at fields 0) (shape_at fields 2) (λ o x y. refl)
+other_is_not_over LogicalExpression fields h g =
+    of_three (λ o x y. Infix (Logical o) x y) (IsOver false) (slice_get logical_operators (word_of (part fields 1))) (shape_at fields 0) (shape_at fields 2) (λ o x y. refl)
+other_is_not_over AssignmentExpression fields h g =
+    of_three Assign (IsOver false) (slice_get assignment_operators (word_of (part fields 0))) (target (shape_at fields 1)) (shape_at fields 2) (λ o x y. refl)
+other_is_not_over ConditionalExpression fields h g =
+    of_three Conditional (IsOver false) (shape_at fields 0) (shape_at fields 1) (shape_at fields 2) (λ x y z. refl)
 other_is_not_over CallExpression fields h g = absurd (h refl)
-other_is_not_over NewExpression fields h g = of_two New _ _ _ (λ s ss. refl)
+other_is_not_over NewExpression fields h g = of_two New (IsOver false) (shape_at fields 0) (shapes_at fields 1) (λ s ss. refl)
 other_is_not_over MemberExpression fields h g = absurd (g refl)
-other_is_not_over SequenceExpression fields h g = of_sequence _ _ (λ x ss. refl)
+other_is_not_over SequenceExpression fields h g = of_sequence (IsOver false) (shapes_at fields 0) (λ x ss. refl)
 other_is_not_over _ fields h g = tt
 
 -- ---- where a shape stands bare
@@ -147,14 +175,10 @@ test_at k at over = nat_le k 22 && not (at && over)
 member_bare : (k : ℕ) → k ≤ 22 → (over at : Bool) → nat_eq k 22 ≡ at → nat_le k (if over then 21 else 22) ≡ test_at k at over
 member_bare k h false at e = and_false at (nat_le k 22)
 member_bare k h true true e = ap (λ j. nat_le j 21) (eqb-true k 22 e) ∙ sym (ap (λ j. test_at j true true) (eqb-true k 22 e))
-member_bare k h true false e = below (leb_tells k 21)
-  where
-    below : _ → nat_le k 21 ≡ test_at k false true
-    below (inl t) = le-leb k 21 t.1 ∙ sym (ap (λ b. b && true) (le-leb k 22 (omega (arith, t.1))))
-    below (inr t) = let same : k ≡ 22 = omega (arith, t.1, h) in absurd (cc)
-
-other_bare : (a b : Bool) → b ≡ (b && not (a && false))
-other_bare = and_false
+member_bare k h true false e =
+    let apart : (k ≡ 22) → ⊥ = eqb-false k 22 e in
+    let below : k ≤ 21 = omega (arith, h, apart) in
+    le-leb k 21 below ∙ sym (ap (λ b. b && true) (le-leb k 22 h))
 
 -- what a test of the level without regard to calls, and one of members over a call, say together
 pub bare_tests : (k : ℕ) → k ≤ 22 → (s : Shape) → nat_le k (level s) ≡ (nat_le k (flat_level s) && not (nat_eq k 22 && (is_member s && is_over_call s)))

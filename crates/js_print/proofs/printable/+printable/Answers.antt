@@ -5,7 +5,7 @@ use Rattle.tree_nodes.specs.Tree.{Parts}
 use Rattle.tree_nodes.proofs.Lists.{past_items, past_len}
 use Rattle.js_grammar.specs.Expressions.{assignment_operators, binary_operators, logical_operators, target, unary_operators, update_operators}
 use Rattle.js_grammar.specs.Shapes.{Shape}
-use Rattle.js_print.proofs.PartsAt.{shape_found, shape_missing, shapes_found, shapes_missing}
+use Rattle.js_print.proofs.PartsAt.{shape_found, shape_missing, shape_of_node, shapes_found, shapes_missing}
 use Rattle.js_print.proofs.PrintedLists.{tests_end, tests_go_on, tests_pass, tests_stop}
 use Rattle.js_print.proofs.Shaped as shaped
 use Rattle.js_print.proofs.Shaped.{both_are, three_are}
@@ -77,3 +77,5 @@ are_printable-returns-after-loop-i t c =
 pub are_printable-returns-in_default : goal.are_printable-returns-in_default
 are_printable-returns-in_default t c = sym (c.loop-i.invariant ∙ tests_end c.args.nodes.now c.loop-i.i (past_items c.args.nodes.now c.loop-i.i (sym c.in_default.ensures.item)))
 
+pub is_printable-returns : goal.is_printable-returns
+is_printable-returns t c = c.has_shape.ensures ∙ ap is_some (sym (shape_of_node c.args.node.now))
