@@ -54,7 +54,7 @@ function putProperty(edits, old, renamed) {
   const leaf = leafOf(old.value);
   if (old.shorthand && !renamed.shorthand) {
     edits.put(key.start, key.end, `${edits.written(key)}: ${leafOf(renamed.value).name}`);
-  } else if (!old.shorthand && renamed.shorthand && isJoin(edits, key, leaf, ': ')) {
+  } else if (!old.shorthand && renamed.shorthand && isJoin(edits, key, leaf, /^\s*:\s*$/)) {
     edits.put(key.start, leaf.end, edits.written(key));
   } else {
     if (!old.shorthand) put(edits, old.key, renamed.key);
@@ -66,7 +66,7 @@ function putProperty(edits, old, renamed) {
 
 // Whether nothing but this stands between two nodes, so that no comment of the user's is lost.
 function isJoin(edits, first, second, between) {
-  return edits.source.slice(first.end, second.start) === between;
+  return between.test(edits.source.slice(first.end, second.start));
 }
 
 // `import {x}` is `import {x as e}`, `export {x}` is `export {e as x}`, and the other way.
@@ -81,7 +81,7 @@ function putSpecifier(edits, old, renamed) {
   }
   const changed = first.name !== newFirst.name || second.name !== newSecond.name;
   const same = first.type === 'Identifier' && second.type === 'Identifier' && newFirst.name === newSecond.name;
-  if (changed && same && isJoin(edits, first, second, ' as ')) {
+  if (changed && same && isJoin(edits, first, second, /^\s+as\s+$/)) {
     return edits.put(first.start, second.end, newFirst.name);
   }
   put(edits, first, newFirst);
@@ -115,8 +115,18 @@ export function areAlike(one, other) {
   if (one === null || other === null || one === undefined || other === undefined) return isNothing(one) && isNothing(other);
   if (typeof one !== 'object' || typeof other !== 'object') return isNothing(one) && isNothing(other);
   const keys = new Set([...Object.keys(one), ...Object.keys(other)]);
-  return [...keys].every((key) => (UNTOLD.has(key) && isNode(one)) || areAlike(one[key], other[key]));
+  return [...keys].every((key) => isUntold(one, key) || areAlike(one[key], other[key]));
 }
+
+// `{a: a}` is `{a}`, but for `__proto__`, which sets the prototype where it has a colon.
+function isUntold(node, key) {
+  if (!isNode(node)) return false;
+  if (node.type === 'Property' && key === 'shorthand') return isBoth(node) && node.key.name !== '__proto__';
+  return UNTOLD.has(key);
+}
+
+const isBoth = ({ computed, key, value }) =>
+  !computed && key.type === 'Identifier' && leafOf(value).type === 'Identifier' && key.name === leafOf(value).name;
 
 // What a field holds that a tree may also leave out.
 const isNothing = (value) => value === undefined || value === null || value === false || (Array.isArray(value) && value.length === 0);

@@ -13,9 +13,12 @@ export function programPath(named) {
   return named ?? (process.env.MANGLE || (existsSync(BUILT) ? BUILT : 'mangle'));
 }
 
+// `{__proto__}` makes a property, `{__proto__: e}` sets the prototype: so a variable of this name keeps it.
+const ALWAYS_KEPT = ['--reserve', '__proto__'];
+
 /** The words that ask the program for these options. */
 export function wordsOf(options = {}) {
-  const words = [];
+  const words = [...ALWAYS_KEPT];
   if (options.topLevel === true) words.push('--top-level');
   if (options.topLevel === false) words.push('--no-top-level');
   if (options.keepFnNames) words.push('--keep-fn-names');

@@ -25,6 +25,7 @@ const SCRIPTS = {
   labels: '(() => { outer: for (let at = 0; at < 3; at++) { for (;;) { if (at === 1) break outer; continue outer } } log("done") })();',
   tagged: '(() => { const tag = (parts, ...values) => parts.raw.join("|") + values; const value = 5; log(tag`a\\u0041${value}\\d`) })();',
   eval: '(() => { const seen = 4; log(eval("seen")) })();',
+  prototype: '(() => { const __proto__ = { inherited: 1 }; const made = { __proto__ }; log(Object.keys(made).join(), made.inherited) })();',
   surrogates: '(() => { const lone = "\\ud800", pair = "\u{1f600}"; log(lone.length, pair.length, `\\udc00`.length) })();',
 };
 

@@ -12,6 +12,7 @@ const ROWS = [
   ['let {a = a} = x', 'let {a: c = c} = x', 'let {a: c = c} = x'],
   ['({a: c})', '({a})', '({a})'],
   ['let {a: c = 1} = x', 'let {a = 1} = x', 'let {a = 1} = x'],
+  ['({a:c})', '({a})', '({a})'],
   ['({a /* why */ : c})', '({a})', '({a /* why */ : a})'],
   ['import {a} from "m"', 'import {a as c} from "m"', 'import {a as c} from "m"'],
   ['import {a as c} from "m"', 'import {a} from "m"', 'import {a} from "m"'],
@@ -37,6 +38,6 @@ test('another tree is refused', () => {
 });
 
 test('trees are told apart', () => {
-  const rows = [['a', 'b'], ['1', '2'], ['"a"', '"b"'], ['a + b', 'a - b'], ['f(a)', 'f(a, b)'], ['/a/', '/a/g'], ['1n', '2n'], ['({a})', '({a: a})']];
+  const rows = [['a', 'b'], ['1', '2'], ['"a"', '"b"'], ['a + b', 'a - b'], ['f(a)', 'f(a, b)'], ['/a/', '/a/g'], ['1n', '2n'], ['({__proto__})', '({__proto__: __proto__})'], ['({a})', '({[a]: a})']];
   for (const [one, other] of rows) assert.ok(!areAlike(tree(one), tree(other)), `${one} ${other}`);
 });

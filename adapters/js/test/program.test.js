@@ -3,9 +3,9 @@ import { test } from 'node:test';
 import { programPath, runProgram, wordsOf } from '../lib/program.js';
 
 test('options are words', () => {
-  assert.deepEqual(wordsOf(), []);
+  assert.deepEqual(wordsOf(), ['--reserve', '__proto__']);
   assert.deepEqual(wordsOf({ topLevel: false, keepFnNames: true, keepClassNames: true, debug: true, reserved: ['a', '--b'] }), [
-    '--no-top-level', '--keep-fn-names', '--keep-class-names', '--debug', '--reserve', 'a', '--reserve', '--b',
+    '--reserve', '__proto__', '--no-top-level', '--keep-fn-names', '--keep-class-names', '--debug', '--reserve', 'a', '--reserve', '--b',
   ]);
   assert.throws(() => wordsOf({ reserved: ['\ud800'] }), { kind: 'BadArgument', status: 2 });
 });
