@@ -22,6 +22,7 @@ tested U x y = go (bytes_eq x y) refl
     to_false : (b : Bool) → false ≡ (b && false)
     to_false true = refl
     to_false false = refl
+
     go : (b : Bool) → bytes_eq x y ≡ b → (U y && b) ≡ (U x && b)
     go true e = ap (λ (z : Text). U z && true) (sym ((bytes_eq-Decides x y).0 e))
     go false e = sym (to_false (U y)) ∙ to_false (U x)
