@@ -1,6 +1,6 @@
 //! How many numbers private names need, before any is given.
 
-ghost use Rattle.std.specs.Prelude.{◌≡◌, ◌<◌, IfOk, OnOk, length};
+ghost use Rattle.std.specs.Prelude.{◌≡◌, ◌<◌, ◌+◌, IfOk, OnOk, length};
 ghost use Rattle.class_tables.specs.PrivateTables.{IsWhole, list_in};
 ghost use Rattle.place_list.specs.Bounds.{IsBelow};
 ghost use Rattle.place_list.specs.TableViews.{classes_at};
@@ -78,10 +78,10 @@ fn needed(
 }
 
 // Where the list of the numbers that are free in an open class body stands, or outside all of them.
-pub(crate) fn slot(open: Option<u32>) -> usize
-    ensures { result ≡ slot open }
+pub(crate) fn slot(class_body: Option<u32>) -> usize
+    ensures { result ≡ slot class_body }
 {
-    match open {
+    match class_body {
         Some(class_body) => class_body as usize + 1,
         None => 0,
     }

@@ -1,6 +1,6 @@
 //! The numbers that private names can have: outside all open class bodies, and in each of these.
 
-ghost use Rattle.std.specs.Prelude.{◌≡◌, ◌≤◌, ◌<◌, [], IfOk, IsTrue, Some, filter, get_or, length, not};
+ghost use Rattle.std.specs.Prelude.{◌≡◌, ◌<◌, ◌+◌, [], IfOk, IsTrue, Some, filter, get_or, length, not};
 ghost use Rattle.class_tables.specs.PrivateTables.{IsWhole, list_in};
 ghost use Rattle.name_rules.specs.PrivateNumbers.{open_names};
 ghost use Rattle.name_rules.specs.ShortNames.{short};
@@ -29,7 +29,8 @@ pub(crate) fn free_numbers(
     ensures { IfOk result (λ v. AreEnough (list_in table.now) v.items) }
 {
     let demands = demands(alloc, table, count)?;
-    let mut free = vec![in alloc; numbers_below(alloc, demands[0])?]?;
+    let outside = numbers_below(alloc, demands[0])?;
+    let mut free = vec![in alloc; outside]?;
     for class_body in 0..count {
         let inside = free_inside(alloc, table, demands.as_slice(), free.as_slice(), class_body)?;
         free.push(inside)?;

@@ -1,0 +1,71 @@
+-- What class bodies need is asked for, one after the other, from the last one on.
+use Rattle.std.specs.Prelude.{◌≡◌, ◌⊎◌, ◌≤◌, ◌<◌, ◌+◌, ℕ, Bool, List, length, get_or, find, Option, Some, None, if◌then◌else◌}
+use Rattle.std.proofs.Common.{inl, inr, refl, sym, ap, ◌∙◌, subst, arith, set}
+use Rattle.std.proofs.lemmas.Bool.{cases_eq, cases_lt}
+use Rattle.std.proofs.lemmas.List.{get_or-set_other, get_or-set_same, length-set}
+use Rattle.name_rules.specs.PrivateNumbers.{closed_count}
+use Rattle.place_list.specs.Bounds.{IsBelow}
+use Rattle.place_list.specs.TableViews.{places_in}
+use Rattle.place_list.specs.declared.tables.PlaceList.{PlaceList}
+use Rattle.scope_rules.specs.Evals.{is_open}
+use Rattle.scope_rules.specs.PrivateNames.{private_names}
+use Rattle.private_numbers.specs.Demands.{AreAsked, IsAsked, needed, slot, slot_around}
+use Rattle.private_numbers.specs.Numbers.{classes_around}
+
+-- the slot of a class body further out stands before that of one inside
+pub slot_low : (c : ℕ) (o : Option ℕ) → IsBelow c o → slot o ≤ c
+slot_low c None h = omega arith
+slot_low c (Some k) h = omega (arith, h)
+
+module _ (l : PlaceList) (c : ℕ) (old : List ℕ) where
+  -- enough is asked for already
+  pub asked_already : (s x : ℕ) → s ≡ slot_around l c → x ≡ needed l old c → x ≤ get_or old s 0 → IsAsked l c old old
+  asked_already s x e is h = record {
+    many = refl;
+    enough = subst (λ (k : ℕ). needed l old c ≤ get_or old k 0) e (omega (arith, is, h));
+    more = λ k. omega arith;
+    same = λ k h. refl;
+  }
+
+  -- more is asked for now
+  pub asked_now : (s x : ℕ) → s ≡ slot_around l c → x ≡ needed l old c → s ≤ c → s < length old → get_or old s 0 < x → IsAsked l c old (set old s x)
+  asked_now s x e is low h less = record {
+    many = length-set old s x;
+    enough = subst (λ (k : ℕ). needed l old c ≤ get_or (set old s x) k 0) e (let new = get_or-set_same old s x 0 h in omega (arith, is, new));
+    more = λ k. go k (cases_eq k s);
+    same = λ k later. get_or-set_other old s k x 0 (λ q. omega (arith, low, later, q));
+  }
+    where
+      go : (k : ℕ) → (k ≡ s) ⊎ (k ≡ s → ⊥) → get_or old k 0 ≤ get_or (set old s x) k 0
+      go k (inl q) = subst (λ (j : ℕ). get_or old j 0 ≤ get_or (set old s x) j 0) (sym q) (let new = get_or-set_same old s x 0 h in omega (arith, less, new))
+      go k (inr q) = let same = get_or-set_other old s k x 0 q in omega (arith, same)
+
+  -- those after it are served as before
+  pub asked_more : (new : List ℕ) → c < length l.class_bodies.items → AreAsked l (c + 1) old → IsAsked l c old new → AreAsked l c new
+  asked_more new h before now = record {
+    many = now.many ∙ before.many;
+    each = λ d from below. go d from below (cases_lt c d);
+  }
+    where
+      needs : (d : ℕ) → c ≤ d → needed l new d ≡ needed l old d
+      unfolding needed
+      needs d from = ap (λ (n : ℕ). (if is_open (places_in l) d then n else closed_count (places_in l) (classes_around l d)) + length (private_names (places_in l) d)) (now.same (d + 1) (omega (arith, from)))
+
+      go : (d : ℕ) → c ≤ d → d < length l.class_bodies.items → (c < d) ⊎ (d ≤ c) → needed l new d ≤ get_or new (slot_around l d) 0
+      go d from below (inl later) =
+          let same = needs d from in
+          let was : needed l old d ≤ get_or old (slot_around l d) 0 = before.each d (omega (arith, later)) below in
+          let more = now.more (slot_around l d) in
+          omega (arith, same, was, more)
+      go d from below (inr here) =
+          let e : c ≡ d = omega (arith, from, here) in
+          let same = needs d from in
+          let enough : needed l old d ≤ get_or new (slot_around l d) 0 = subst (λ (k : ℕ). needed l old k ≤ get_or new (slot_around l k) 0) e now.enough in
+          omega (arith, same, enough)
+
+-- none is served yet
+pub none_asked : (l : PlaceList) (n : ℕ) (demands : List ℕ) → n ≡ length l.class_bodies.items → length demands ≡ n + 1 → AreAsked l n demands
+none_asked l n demands e many = record {
+  many = many ∙ ap (λ (k : ℕ). k + 1) e;
+  each = λ c from below. absurd (omega (arith, e, from, below));
+}
