@@ -40,6 +40,11 @@ module _ (l : PlaceList) (c : ℕ) (old : List ℕ) where
       go k (inl q) = subst (λ (j : ℕ). get_or old j 0 ≤ get_or (set old s x) j 0) (sym q) (let new = get_or-set_same old s x 0 h in omega (arith, less, new))
       go k (inr q) = let same = get_or-set_other old s k x 0 q in omega (arith, same)
 
+  -- what is needed at a list inside it or after it stays
+  needs : (new : List ℕ) → IsAsked l c old new → (d : ℕ) → c ≤ d → needed l new d ≡ needed l old d
+  unfolding needed
+  needs new now d from = ap (λ (n : ℕ). (if is_open (places_in l) d then n else closed_count (places_in l) (classes_around l d)) + length (private_names (places_in l) d)) (now.same (d + 1) (omega (arith, from)))
+
   -- those after it are served as before
   pub asked_more : (new : List ℕ) → c < length l.class_bodies.items → AreAsked l (c + 1) old → IsAsked l c old new → AreAsked l c new
   asked_more new h before now = record {
@@ -47,19 +52,15 @@ module _ (l : PlaceList) (c : ℕ) (old : List ℕ) where
     each = λ d from below. go d from below (cases_lt c d);
   }
     where
-      needs : (d : ℕ) → c ≤ d → needed l new d ≡ needed l old d
-      unfolding needed
-      needs d from = ap (λ (n : ℕ). (if is_open (places_in l) d then n else closed_count (places_in l) (classes_around l d)) + length (private_names (places_in l) d)) (now.same (d + 1) (omega (arith, from)))
-
       go : (d : ℕ) → c ≤ d → d < length l.class_bodies.items → (c < d) ⊎ (d ≤ c) → needed l new d ≤ get_or new (slot_around l d) 0
       go d from below (inl later) =
-          let same = needs d from in
+          let same = needs new now d from in
           let was : needed l old d ≤ get_or old (slot_around l d) 0 = before.each d (omega (arith, later)) below in
           let more = now.more (slot_around l d) in
           omega (arith, same, was, more)
       go d from below (inr here) =
           let e : c ≡ d = omega (arith, from, here) in
-          let same = needs d from in
+          let same = needs new now d from in
           let enough : needed l old d ≤ get_or new (slot_around l d) 0 = subst (λ (k : ℕ). needed l old k ≤ get_or new (slot_around l k) 0) e now.enough in
           omega (arith, same, enough)
 

@@ -32,6 +32,12 @@ module _ (ps : List Place) where
       (λ t. subst (λ (o : Option ℕ). IfSome o (λ d. is_open ps d ≡ true)) (sym (found_here c cs t)) t)
       (λ f. subst (λ (o : Option ℕ). IfSome o (λ d. is_open ps d ≡ true)) (sym (found_further c cs f)) (found_open cs))
 
+  pub found_below : (from : ℕ → List ℕ) (n : ℕ) (cs : List ℕ) → Follow from n cs → IfSome (find (is_open ps) cs) (λ c. c < n)
+  found_below from n [] f = tt
+  found_below from n (c ∷ cs) f = tested (is_open ps c)
+      (λ t. subst (λ (o : Option ℕ). IfSome o (λ d. d < n)) (sym (found_here c cs t)) f.0)
+      (λ g. subst (λ (o : Option ℕ). IfSome o (λ d. d < n)) (sym (found_further c cs g)) (found_below from n cs f.2))
+
   -- from the nearest open class body outwards they are the same
   pub names_from_found : (from : ℕ → List ℕ) (n : ℕ) (cs : List ℕ) → Follow from n cs → open_names ps cs ≡ open_names ps (from_next from (find (is_open ps) cs))
   names_from_found from n [] f = refl

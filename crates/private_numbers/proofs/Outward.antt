@@ -11,7 +11,7 @@ use Rattle.place_list.specs.declared.tables.PlaceList.{PlaceList}
 use Rattle.name_rules.specs.PrivateNumbers.{open_names}
 use Rattle.scope_rules.specs.Evals.{is_open}
 use Rattle.private_numbers.proofs.Declared.{Follow, from_next, they_follow}
-use Rattle.private_numbers.proofs.OpenNames.{names_from_found}
+use Rattle.private_numbers.proofs.OpenNames.{found_below, names_from_found}
 
 module _ (l : PlaceList) (bounded : IsBounded (list_view l)) where
   -- from a class body outwards
@@ -46,3 +46,14 @@ module _ (l : PlaceList) (bounded : IsBounded (list_view l)) where
   pub names_from_nearest : (o : Option ℕ) → IsBelow (length l.class_bodies.items) o → open_names (places_in l) (classes_at l o) ≡ open_names (places_in l) (classes_at l (find (is_open (places_in l)) (classes_at l o)))
   names_from_nearest o h = names_from_found (places_in l) from_class (length l.class_bodies.items) (classes_at l o) (classes_follow o h)
       ∙ ap (open_names (places_in l)) (listed (find (is_open (places_in l)) (classes_at l o)))
+
+  pub nearest_below : (o : Option ℕ) → IsBelow (length l.class_bodies.items) o → IsBelow (length l.class_bodies.items) (find (is_open (places_in l)) (classes_at l o))
+  nearest_below o h = found_below (places_in l) from_class (length l.class_bodies.items) (classes_at l o) (classes_follow o h)
+
+  -- what lies around a class body
+  pub around : (k : ℕ) → k < length l.class_bodies.items → (o : Option ℕ) × (classes_at l (Some k) ≡ k ∷ classes_at l o) × IsBelow (length l.class_bodies.items) o
+  around k h = (
+    outer l.class_bodies.items k,
+    step k h ∙ ap (λ (cs : List ℕ). k ∷ cs) (listed (outer l.class_bodies.items k)),
+    next_below k h (outer l.class_bodies.items k) refl,
+  )

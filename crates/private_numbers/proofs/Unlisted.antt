@@ -105,31 +105,31 @@ module _ (listed : List Text) where
 
 -- ---- where more names are listed
 
-module _ (own outer : List Text) where
-  -- the number's short name isn't one of them
-  abbrev pub is_left : ℕ → Bool
-  is_left n = not (is_among own (short n))
+-- the number's short name isn't one of these
+abbrev pub is_left : List Text → ℕ → Bool
+is_left own n = not (is_among own (short n))
 
-  pub left_below : (k : ℕ) → filter is_left (unlisted_below outer k) ≡ unlisted_below (own ++ outer) k
+module _ (own outer : List Text) where
+  pub left_below : (k : ℕ) → filter (is_left own) (unlisted_below outer k) ≡ unlisted_below (own ++ outer) k
   unfolding unlisted_below is_among
   left_below zero = refl
   left_below (suc k) =
-      filter-append is_left (unlisted_below outer k) (cond (is_among outer (short k)) [] (k ∷ []))
-      ∙ ap (λ (ns : List ℕ). ns ++ filter is_left (cond (is_among outer (short k)) [] (k ∷ []))) (left_below k)
+      filter-append (is_left own) (unlisted_below outer k) (cond (is_among outer (short k)) [] (k ∷ []))
+      ∙ ap (λ (ns : List ℕ). ns ++ filter (is_left own) (cond (is_among outer (short k)) [] (k ∷ []))) (left_below k)
       ∙ ap (λ (ns : List ℕ). unlisted_below (own ++ outer) k ++ ns) (last (is_among own (short k)) (is_among outer (short k)) refl
       ∙ ap (λ (b : Bool). cond b [] (k ∷ [])) (sym (list_any-append (same_name (short k)) own outer)))
     where
-      last : (a b : Bool) → is_among own (short k) ≡ a → filter is_left (cond b [] (k ∷ [])) ≡ cond (a || b) [] (k ∷ [])
+      last : (a b : Bool) → is_among own (short k) ≡ a → filter (is_left own) (cond b [] (k ∷ [])) ≡ cond (a || b) [] (k ∷ [])
       last true true e = refl
       last false true e = refl
       last true false e = ap (λ (t : Bool). cond (not t) (k ∷ []) []) e
       last false false e = ap (λ (t : Bool). cond (not t) (k ∷ []) []) e
 
   -- of different numbers all are left but as many as there are names
-  many_left : (ns : List ℕ) → PairsOf (λ m n. m ≡ n → ⊥) ns → length ns ≤ length own + length (filter is_left ns)
+  many_left : (ns : List ℕ) → PairsOf (λ m n. m ≡ n → ⊥) ns → length ns ≤ length own + length (filter (is_left own) ns)
   many_left ns apart =
       let gone : List ℕ = filter (λ n. is_among own (short n)) ns in
-      let both : length gone + length (filter is_left ns) ≡ length ns = length-filter_both (λ n. is_among own (short n)) is_left (λ n. refl) ns in
+      let both : length gone + length (filter (is_left own) ns) ≡ length ns = length-filter_both (λ n. is_among own (short n)) (is_left own) (λ n. refl) ns in
       let few : length (map short gone) ≤ length own = no_more same_name same_name_tells (map short gone) own
           (different_map short gone (PairsOf_filter (λ m n. m ≡ n → ⊥) (λ n. is_among own (short n)) ns apart) (λ m n _ _ e. short_is_one_to_one m n e))
           (λ x i. let w : (n : ℕ) × In n gone × (short n ≡ x) = from_map short gone x i in
@@ -138,15 +138,15 @@ module _ (own outer : List Text) where
       omega (arith, both, few, same)
 
   -- the first numbers where these names are listed besides, by the first ones where they weren't
-  pub first_left : (n : ℕ) (ns : List ℕ) (m : ℕ) → m ≡ n + length own → AreFirst outer m ns → AreFirst (own ++ outer) n (filter is_left (take m ns))
+  pub first_left : (n : ℕ) (ns : List ℕ) (m : ℕ) → m ≡ n + length own → AreFirst outer m ns → AreFirst (own ++ outer) n (filter (is_left own) (take m ns))
   first_left n ns m e first =
       let w : (j : ℕ) × (take m (unlisted_below outer first.end) ≡ unlisted_below outer j) = begins outer m first.end (subst (λ (ms : List ℕ). m ≤ length ms) first.are first.many) in
       let is : take m ns ≡ unlisted_below outer w.0 = ap (take m) first.are ∙ w.1 in
       let long : length (take m ns) ≡ m = length-take-le m ns first.many in
-      let few : length (take m ns) ≤ length own + length (filter is_left (take m ns)) = many_left (take m ns) (subst (PairsOf (λ a b. a ≡ b → ⊥)) (sym is) (different outer w.0)) in
+      let few : length (take m ns) ≤ length own + length (filter (is_left own) (take m ns)) = many_left (take m ns) (subst (PairsOf (λ a b. a ≡ b → ⊥)) (sym is) (different outer w.0)) in
       record {
         end = w.0;
-        are = ap (filter is_left) is ∙ left_below w.0;
+        are = ap (filter (is_left own)) is ∙ left_below w.0;
         many = omega (arith, long, few, e);
       }
 

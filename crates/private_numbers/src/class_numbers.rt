@@ -1,6 +1,7 @@
 //! The numbers of the private names of one class.
 
-ghost use Rattle.std.specs.Prelude.{◌<◌, IfOk, length};
+ghost use Rattle.std.specs.Prelude.{◌≡◌, ◌≤◌, ◌<◌, ◌+◌, IfOk, length};
+ghost use Rattle.std.specs.List.{between};
 ghost use Rattle.class_tables.specs.PrivateTables.{IsWhole, list_in};
 ghost use Rattle.private_numbers.specs.FreeNumbers.{AreEnough};
 ghost use Rattle.private_numbers.specs.Numbers.{AreClassNumbers};
@@ -34,9 +35,22 @@ pub(crate) fn class_numbers(
         });
     }
     let outwards = class_around(table, class_body);
-    let first = table.closed_count(outwards);
-    let end = first + table.private_names(class_body).len();
     let around = free[slot(nearest_open(table, outwards))].as_slice();
-    let numbers = Vec::from_slice(alloc, &around[first..end])?;
+    let first = table.closed_count(outwards);
+    let count = table.private_names(class_body).len();
+    let numbers = part(alloc, around, first, count)?;
     Ok(ClassNumbers { numbers })
+}
+
+// So many of the numbers, from the first one on.
+fn part(
+    alloc: Global,
+    numbers: &[u32],
+    first: usize,
+    count: usize,
+) -> Result<Vec<u32>, AllocError>
+    requires { first + count ≤ length numbers.now }
+    ensures { IfOk result (λ v. v.items ≡ between first (first + count) numbers.now) }
+{
+    Vec::from_slice(alloc, &numbers[first..first + count])
 }
