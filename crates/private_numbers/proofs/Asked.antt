@@ -18,28 +18,6 @@ slot_low c None h = omega arith
 slot_low c (Some k) h = omega (arith, h)
 
 module _ (l : PlaceList) (c : ℕ) (old : List ℕ) where
-  -- enough is asked for already
-  pub asked_already : (s x : ℕ) → s ≡ slot_around l c → x ≡ needed l old c → x ≤ get_or old s 0 → IsAsked l c old old
-  asked_already s x e is h = record {
-    many = refl;
-    enough = subst (λ (k : ℕ). needed l old c ≤ get_or old k 0) e (omega (arith, is, h));
-    more = λ k. omega arith;
-    same = λ k h. refl;
-  }
-
-  -- more is asked for now
-  pub asked_now : (s x : ℕ) → s ≡ slot_around l c → x ≡ needed l old c → s ≤ c → s < length old → get_or old s 0 < x → IsAsked l c old (set old s x)
-  asked_now s x e is low h less = record {
-    many = length-set old s x;
-    enough = subst (λ (k : ℕ). needed l old c ≤ get_or (set old s x) k 0) e (let new = get_or-set_same old s x 0 h in omega (arith, is, new));
-    more = λ k. go k (cases_eq k s);
-    same = λ k later. get_or-set_other old s k x 0 (λ q. omega (arith, low, later, q));
-  }
-    where
-      go : (k : ℕ) → (k ≡ s) ⊎ (k ≡ s → ⊥) → get_or old k 0 ≤ get_or (set old s x) k 0
-      go k (inl q) = subst (λ (j : ℕ). get_or old j 0 ≤ get_or (set old s x) j 0) (sym q) (let new = get_or-set_same old s x 0 h in omega (arith, less, new))
-      go k (inr q) = let same = get_or-set_other old s k x 0 q in omega (arith, same)
-
   -- what is needed at a list inside it or after it stays
   needs : (new : List ℕ) → IsAsked l c old new → (d : ℕ) → c ≤ d → needed l new d ≡ needed l old d
   unfolding needed
@@ -63,10 +41,3 @@ module _ (l : PlaceList) (c : ℕ) (old : List ℕ) where
           let same = needs new now d from in
           let enough : needed l old d ≤ get_or new (slot_around l d) 0 = subst (λ (k : ℕ). needed l old k ≤ get_or new (slot_around l k) 0) e now.enough in
           omega (arith, same, enough)
-
--- none is served yet
-pub none_asked : (l : PlaceList) (n : ℕ) (demands : List ℕ) → n ≡ length l.class_bodies.items → length demands ≡ n + 1 → AreAsked l n demands
-none_asked l n demands e many = record {
-  many = many ∙ ap (λ (k : ℕ). k + 1) e;
-  each = λ c from below. absurd (omega (arith, e, from, below));
-}

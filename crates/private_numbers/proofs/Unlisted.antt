@@ -131,9 +131,9 @@ module _ (own outer : List Text) where
       let gone : List ℕ = filter (λ n. is_among own (short n)) ns in
       let both : length gone + length (filter (is_left own) ns) ≡ length ns = length-filter_both (λ n. is_among own (short n)) (is_left own) (λ n. refl) ns in
       let few : length (map short gone) ≤ length own = no_more same_name same_name_tells (map short gone) own
-          (different_map short gone (PairsOf_filter (λ m n. m ≡ n → ⊥) (λ n. is_among own (short n)) ns apart) (λ m n _ _ e. short_is_one_to_one m n e))
-          (λ x i. let w : (n : ℕ) × In n gone × (short n ≡ x) = from_map short gone x i in
-          subst (λ (y : Text). In y own) w.2 (among_in own (short w.0) (from_filter (λ n. is_among own (short n)) ns w.0 w.1).1)) in
+      (different_map short gone (PairsOf_filter (λ m n. m ≡ n → ⊥) (λ n. is_among own (short n)) ns apart) (λ m n _ _ e. short_is_one_to_one m n e))
+      (λ x i. let w : (n : ℕ) × In n gone × (short n ≡ x) = from_map short gone x i in
+      subst (λ (y : Text). In y own) w.2 (among_in own (short w.0) (from_filter (λ n. is_among own (short n)) ns w.0 w.1).1)) in
       let same : length (map short gone) ≡ length gone = length-map gone short in
       omega (arith, both, few, same)
 

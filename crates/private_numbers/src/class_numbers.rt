@@ -43,12 +43,7 @@ pub(crate) fn class_numbers(
 }
 
 // So many of the numbers, from the first one on.
-fn part(
-    alloc: Global,
-    numbers: &[u32],
-    first: usize,
-    count: usize,
-) -> Result<Vec<u32>, AllocError>
+fn part(alloc: Global, numbers: &[u32], first: usize, count: usize) -> Result<Vec<u32>, AllocError>
     requires { first + count ≤ length numbers.now }
     ensures { IfOk result (λ v. v.items ≡ between first (first + count) numbers.now) }
 {

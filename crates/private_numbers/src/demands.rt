@@ -30,11 +30,7 @@ pub(crate) fn demands(
 }
 
 // Asks for what a class body needs.
-fn ask(
-    table: &PrivateTable<'_, '_>,
-    demands: &mut [u32],
-    class_body: u32,
-) -> Result<(), AllocError>
+fn ask(table: &PrivateTable<'_, '_>, demands: &mut [u32], class_body: u32) -> Result<(), AllocError>
     requires whole { IsWhole table.now }
     requires class_body { class_body < length (list_in table.now).class_bodies.items }
     requires slots { class_body + 1 < length demands.old }

@@ -32,7 +32,13 @@ pub(crate) fn free_numbers(
     let outside = numbers_below(alloc, demands[0])?;
     let mut free = vec![in alloc; outside]?;
     for class_body in 0..count {
-        let inside = free_inside(alloc, table, demands.as_slice(), free.as_slice(), class_body)?;
+        let inside = free_inside(
+            alloc,
+            table,
+            demands.as_slice(),
+            free.as_slice(),
+            class_body,
+        )?;
         free.push(inside)?;
     }
     Ok(free)

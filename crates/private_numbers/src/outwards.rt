@@ -19,10 +19,7 @@ pub(crate) fn class_around(table: &PrivateTable<'_, '_>, class_body: u32) -> Opt
 }
 
 // The nearest open class body, from this one outwards.
-pub(crate) fn nearest_open(
-    table: &PrivateTable<'_, '_>,
-    class_body: Option<u32>,
-) -> Option<u32>
+pub(crate) fn nearest_open(table: &PrivateTable<'_, '_>, class_body: Option<u32>) -> Option<u32>
     requires whole { IsWhole table.now }
     requires class_body { IsBelow (length (list_in table.now).class_bodies.items) class_body }
     ensures nearest { result ≡ find (evals.is_open (places_in (list_in table.now))) (classes_at (list_in table.now) class_body) }

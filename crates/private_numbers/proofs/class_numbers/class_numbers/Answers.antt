@@ -35,10 +35,10 @@ free c =
     let below : IsBelow cb c.nearest_open.result = c.nearest_open.ensures.below cb c.class_around-outwards.ensures.below in
     let at : c.slot.result ≡ slot_around l cb = slot_told l cb c.class_around-outwards.result c.nearest_open.result c.slot.result c.class_around-outwards.ensures.outwards c.nearest_open.ensures.nearest c.slot.ensures in
     let stands : c.as_slice-around.result.now ≡ list_at c.args.free.now (slot_around l cb) =
-        c.as_slice-around.ensures.value
-        ∙ list_read c.args.free.now c.slot.result c.index-free-slot.result
-        (let low = slot_low cb c.nearest_open.result below in let many = c.requires.free.many in let h = c.requires.class_body in let e = c.slot.ensures in omega (arith, low, many, e, h)) c.index-free-slot.is
-        ∙ ap (list_at c.args.free.now) at in
+    c.as_slice-around.ensures.value
+    ∙ list_read c.args.free.now c.slot.result c.index-free-slot.result
+    (let low = slot_low cb c.nearest_open.result below in let many = c.requires.free.many in let h = c.requires.class_body in let e = c.slot.ensures in omega (arith, low, many, e, h)) c.index-free-slot.is
+    ∙ ap (list_at c.args.free.now) at in
     subst (AreFirst (open_names (places_in l) (classes_around l cb)) (closed_count (places_in l) (classes_around l cb) + length (private_names (places_in l) cb))) (sym stands)
     (c.requires.free.each cb c.requires.class_body (sym c.is_open.ensures ∙ c.if-is_open.false))
 

@@ -35,9 +35,9 @@ first c =
     let below : IsBelow cb c.nearest_open-around.result = c.nearest_open-around.ensures.below cb c.class_around.ensures.below in
     let at : c.slot-2.result ≡ slot_around l cb = slot_told l cb c.class_around.result c.nearest_open-around.result c.slot-2.result c.class_around.ensures.outwards c.nearest_open-around.ensures.nearest c.slot-2.ensures in
     let stands : c.as_slice.result.now ≡ list_at c.args.free.now (slot_around l cb) =
-        c.as_slice.ensures.value
-        ∙ list_read c.args.free.now c.slot-2.result c.index-free-slot.result (let low = slot_low cb c.nearest_open-around.result below in let many = c.requires.many in let e = c.slot-2.ensures in omega (arith, low, many, e)) c.index-free-slot.is
-        ∙ ap (list_at c.args.free.now) at in
+    c.as_slice.ensures.value
+    ∙ list_read c.args.free.now c.slot-2.result c.index-free-slot.result (let low = slot_low cb c.nearest_open-around.result below in let many = c.requires.many in let e = c.slot-2.ensures in omega (arith, low, many, e)) c.index-free-slot.is
+    ∙ ap (list_at c.args.free.now) at in
     subst (AreFirst (open_names (places_in l) (classes_around l cb)) (get_or c.args.demands.now c.slot.result 0 + length c.private_names.result.now)) (sym stands)
     (subst (λ (n : ℕ). AreFirst (open_names (places_in l) (classes_around l cb)) n (list_at c.args.free.now (slot_around l cb))) (needed_open l c.args.demands.now cb (opened c) ∙ sym (as_asked c))
     (around_needed l c.args.demands.now c.requires.whole.bounded c.requires.demands c.args.free.now cb cb c.class_around.result c.requires.class_body c.requires.free c.class_around.ensures.outwards
