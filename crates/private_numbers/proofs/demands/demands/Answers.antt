@@ -3,7 +3,7 @@ use Rattle.std.proofs.Common.{sym, subst, arith, rules}
 use Rattle.class_tables.specs.PrivateTables.{list_in}
 use Rattle.number_tables.proofs.ItemsOf.{written_back}
 use Rattle.private_numbers.specs.Demands.{AreAsked, IsAsked}
-use Rattle.private_numbers.proofs.Asked.{asked_more, none_asked}
+use Rattle.private_numbers.proofs.Asked.{asked_more}
 use Rattle.private_numbers.proofs.demands.demands.Goals as goal
 
 pub loop-class_body-preserved : goal.loop-class_body-preserved
