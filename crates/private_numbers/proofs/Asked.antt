@@ -1,8 +1,7 @@
 -- What class bodies need is asked for, one after the other, from the last one on.
-use Rattle.std.specs.Prelude.{◌≡◌, ◌⊎◌, ◌≤◌, ◌<◌, ◌+◌, ℕ, Bool, List, length, get_or, find, Option, Some, None, if◌then◌else◌}
-use Rattle.std.proofs.Common.{inl, inr, refl, sym, ap, ◌∙◌, subst, arith, set}
-use Rattle.std.proofs.lemmas.Bool.{cases_eq, cases_lt}
-use Rattle.std.proofs.lemmas.List.{get_or-set_other, get_or-set_same, length-set}
+use Rattle.std.specs.Prelude.{◌≡◌, ◌⊎◌, ◌≤◌, ◌<◌, ◌+◌, ℕ, List, length, get_or, Option, Some, None, if◌then◌else◌}
+use Rattle.std.proofs.Common.{inl, inr, ap, ◌∙◌, subst, arith}
+use Rattle.std.proofs.lemmas.Bool.{cases_lt}
 use Rattle.name_rules.specs.PrivateNumbers.{closed_count}
 use Rattle.place_list.specs.Bounds.{IsBelow}
 use Rattle.place_list.specs.TableViews.{places_in}

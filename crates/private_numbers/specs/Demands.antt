@@ -1,5 +1,5 @@
 -- How many numbers private names need, of each list of free numbers.
-use Rattle.std.specs.Prelude.{◌≡◌, ◌≤◌, ◌<◌, ◌+◌, ℕ, suc, List, find, get_or, length, Option, Some, None, if◌then◌else◌}
+use Rattle.std.specs.Prelude.{◌≡◌, ◌≤◌, ◌<◌, ◌+◌, ℕ, List, find, get_or, length, Option, Some, None, if◌then◌else◌}
 use Rattle.name_rules.specs.PrivateNumbers.{closed_count}
 use Rattle.place_list.specs.TableViews.{places_in}
 use Rattle.place_list.specs.declared.tables.PlaceList.{PlaceList}

@@ -1,5 +1,5 @@
 -- The numbers that private names can have.
-use Rattle.std.specs.Prelude.{◌≡◌, ◌≤◌, ◌<◌, ◌+◌, ℕ, zero, suc, List, [], ◌∷◌, ◌++◌, get_or, length, Option, Some, IfSome, IsTrue, IsFalse, if◌then◌else◌}
+use Rattle.std.specs.Prelude.{◌≡◌, ◌≤◌, ◌<◌, ◌+◌, ℕ, zero, suc, List, [], ◌∷◌, ◌++◌, get_or, length, Option, IfSome, IsTrue, IsFalse, if◌then◌else◌}
 use Rattle.std.proofs.Common.{Vec, Global}
 use Rattle.name_rules.specs.PrivateNumbers.{closed_count, open_names}
 use Rattle.name_rules.specs.ShortNames.{short}

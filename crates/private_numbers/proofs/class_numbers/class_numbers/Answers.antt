@@ -1,7 +1,7 @@
-use Rattle.std.specs.Prelude.{◌≡◌, ◌+◌, ◌≤◌, ◌<◌, List, drop, length, ℕ}
+use Rattle.std.specs.Prelude.{◌≡◌, ◌+◌, List, drop, length, ℕ}
 use Rattle.std.specs.Borrow.{Bor}
 use Rattle.std.specs.List.{between}
-use Rattle.std.proofs.Common.{◌∙◌, ap, ap₂, arith, sym, subst}
+use Rattle.std.proofs.Common.{◌∙◌, ap, arith, sym, subst}
 use Rattle.std.proofs.lemmas.List.{length-map}
 use Rattle.class_tables.specs.PrivateTables.{list_in}
 use Rattle.name_rules.specs.PrivateNumbers.{closed_count, open_names}

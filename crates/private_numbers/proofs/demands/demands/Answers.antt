@@ -1,4 +1,4 @@
-use Rattle.std.specs.Prelude.{◌≡◌, ◌-◌, ◌+◌, ◌<◌, List, drop, length, ℕ}
+use Rattle.std.specs.Prelude.{◌≡◌, ◌-◌, ◌+◌, List, drop, length, ℕ}
 use Rattle.std.proofs.Common.{sym, subst, arith, rules}
 use Rattle.class_tables.specs.PrivateTables.{list_in}
 use Rattle.number_tables.proofs.ItemsOf.{written_back}

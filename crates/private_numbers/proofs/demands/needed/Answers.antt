@@ -1,4 +1,4 @@
-use Rattle.std.specs.Prelude.{◌≡◌, ◌+◌, Bool, get_or, if◌then◌else◌, length, ℕ}
+use Rattle.std.specs.Prelude.{◌+◌, get_or, length, ℕ}
 use Rattle.std.specs.Borrow.{Bor}
 use Rattle.std.proofs.Common.{◌∙◌, ap, ap₂, sym}
 use Rattle.std.proofs.lemmas.List.{length-map}
@@ -6,7 +6,6 @@ use Rattle.class_tables.specs.PrivateTables.{list_in}
 use Rattle.name_rules.specs.PrivateNumbers.{closed_count}
 use Rattle.place_list.specs.TableViews.{places_in}
 use Rattle.tree_nodes.specs.Tree.{Text}
-use Rattle.private_numbers.specs.Numbers.{classes_around}
 use Rattle.private_numbers.proofs.Free.{needed_closed, needed_open}
 use Rattle.private_numbers.proofs.demands.needed.Goals.{then-is_open, else-is_open}
 use Rattle.private_numbers.proofs.demands.needed.Goals as goal

@@ -1,4 +1,4 @@
-use Rattle.std.specs.Prelude.{◌≡◌, ◌+◌, ◌≤◌, List, Some, filter, find, get_or, length, take, true, ℕ}
+use Rattle.std.specs.Prelude.{◌≡◌, ◌+◌, Some, get_or, length, true, ℕ}
 use Rattle.std.specs.Borrow.{Bor}
 use Rattle.std.proofs.Common.{◌∙◌, ap, ap₂, arith, sym, subst}
 use Rattle.std.proofs.lemmas.List.{length-map, length-take-le}
@@ -13,7 +13,7 @@ use Rattle.place_list.specs.TableViews.{classes_at, places_in}
 use Rattle.scope_rules.specs.Evals.{is_open}
 use Rattle.scope_rules.specs.PrivateNames.{private_names}
 use Rattle.tree_nodes.specs.Tree.{Text}
-use Rattle.private_numbers.specs.Demands.{needed, slot_around}
+use Rattle.private_numbers.specs.Demands.{slot_around}
 use Rattle.private_numbers.specs.FreeNumbers.{AreFirst}
 use Rattle.private_numbers.specs.Numbers.{classes_around}
 use Rattle.private_numbers.proofs.Asked.{slot_low}

@@ -1,5 +1,5 @@
 use Rattle.std.proofs.Common.{◌≡◌, ℕ}
-use Rattle.std.specs.Prelude.{find, length}
+use Rattle.std.specs.Prelude.{find}
 use Rattle.class_tables.specs.PrivateTables.{list_in}
 use Rattle.place_list.proofs.OutwardWalks.{how_far}
 use Rattle.place_list.specs.Bounds.{IsBelow}
