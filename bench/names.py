@@ -7,11 +7,11 @@ many names a program has (default 2000, then ten times as many; with 10000 the l
 scope, and 25,000 functions at the root)."""
 import sys
 
-from programs import deep, functions, module, one_scope, wrapped
+from programs import deep, functions, in_open_class, module, one_scope, wrapped
 from timing import MANGLE, best, built
 
 count = int(sys.argv[1]) if len(sys.argv) > 1 else 2000
-for shape in (functions, wrapped, deep, one_scope):
+for shape in (functions, wrapped, deep, one_scope, in_open_class):
     larger = module(shape(10 * count))
     seconds, memory = best(MANGLE, module(shape(count)))
     more_seconds, more_memory = best(MANGLE, larger)

@@ -1,6 +1,9 @@
 """Programs to time, as ESTree, and what their nodes are made of. Each shape takes how many names it is to have."""
 import json
 
+# The characters of short names; a name begins with one of the first 54.
+SHORT = "etnriaoscludfpmhg_vybxSCwTEDOkAjMNPFILRzBVHUWGKqJYXZQ$1024368579"
+
 # So deep may blocks lie in one another: each is an object in a list, and JSON nests 127 levels.
 DEEPEST = 58
 
@@ -86,14 +89,36 @@ def one_name(count):
     return [block([declare("name"), use("name")]) for _ in range(count)]
 
 
+def field(key, value):
+    return node("PropertyDefinition", key=key, value=value, computed=False, static=False)
+
+
+def short_name(count):
+    """The name that so many short names come before, those with the fewest characters first."""
+    found, left = SHORT[count % 54], count // 54
+    while left > 0:
+        left -= 1
+        found += SHORT[left % 64]
+        left //= 64
+    return found
+
+
+def in_open_class(count):
+    """Classes side by side with one private name each, in a class with as many, which are the first short names; a
+    direct eval in it keeps these."""
+    def one(i):
+        body = node("ClassBody", body=[field(private_name("own"), None)])
+        return field(name(f"m{i}"), node("ClassExpression", id=None, superClass=None, body=body))
+    kept = [field(private_name(short_name(i)), None) for i in range(count // 2)]
+    members = kept + [field(name("m"), call(name("eval")))] + [one(i) for i in range(count // 2)]
+    return [node("ClassDeclaration", id=name("outermost"), superClass=None, body=node("ClassBody", body=members))]
+
+
 def classes(count):
     """Classes side by side, each with three private names, of which it reads one of its own."""
-    def field(key, value):
-        return node("PropertyDefinition", key=private_name(key), value=value, computed=False, static=False)
-
     def one(i):
         own = member(node("ThisExpression"), private_name(f"first_{i}"))
-        members = [field(f"first_{i}", None), field("second", None), field("third", own)]
+        members = [field(private_name(key), value) for key, value in ((f"first_{i}", None), ("second", None), ("third", own))]
         return node("ClassDeclaration", id=name(f"c{i}"), superClass=None, body=node("ClassBody", body=members))
     return [one(i) for i in range(count // 4 + 1)]
 

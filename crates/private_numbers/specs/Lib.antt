@@ -1,4 +1,6 @@
 pub mod Numbers
+pub mod Demands
+pub mod FreeNumbers
 pub mod NewNames
 pub mod AllNumbers
 pub mod Laws

@@ -1,11 +1,10 @@
 -- The numbers of the private names of one class.
-use Rattle.std.specs.Prelude.{◌≡◌, ◌<◌, ◌+◌, ◌-◌, ℕ, suc, nat_lt, List, drop, length, get_or, Option, Some, None, if◌then◌else◌}
-use Rattle.name_rules.specs.PrivateNumbers.{nth_unlisted, number_in}
+use Rattle.std.specs.Prelude.{◌≡◌, ◌<◌, ℕ, nat_lt, List, drop, length, get_or, Option, Some, None, if◌then◌else◌}
+use Rattle.name_rules.specs.PrivateNumbers.{number_in}
 use Rattle.place_list.specs.TableViews.{classes_at, places_in}
 use Rattle.place_list.specs.declared.tables.PlaceList.{PlaceList}
 use Rattle.scope_rules.specs.Evals.{is_open}
 use Rattle.scope_rules.specs.PrivateNames.{private_names}
-use Rattle.tree_nodes.specs.Tree.{Text}
 use Rattle.tree_places.specs.Places.{Place}
 
 -- the class bodies around a class body, from inside out
@@ -30,13 +29,3 @@ pub record AreNumbers (ps : List Place) (outer : List ℕ) (count : ℕ) (ns : L
 -- those of a class body
 abbrev pub AreClassNumbers : PlaceList → ℕ → List ℕ → Type 0
 AreClassNumbers l c ns = AreNumbers (places_in l) (classes_around l c) (numbered_names (places_in l) c) ns
-
--- the numbers from the first one on, before the end
-pub record AreConsecutive (first end : ℕ) (ns : List ℕ) : Type 0 where
-  pub many : length ns ≡ end - first
-  pub each : (i : ℕ) → i < end - first → get_or ns i 0 ≡ first + i
-
--- the numbers at the positions from the first one on, before the end, among those whose short name isn't listed
-pub record AreAt (listed : List Text) (first end : ℕ) (ns : List ℕ) : Type 0 where
-  pub many : length ns ≡ end - first
-  pub each : (i : ℕ) → i < end - first → get_or ns i 0 ≡ nth_unlisted listed (suc ((first + i) + length listed)) (first + i) 0

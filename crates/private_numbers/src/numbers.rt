@@ -13,6 +13,7 @@ ghost use Rattle.private_numbers.specs.NewNames.{changed_name, name_or};
 ghost use Rattle.private_numbers.specs.AllNumbers.{IsNumbered, numbers_at, table_in};
 
 use crate::class_numbers::{ClassNumbers, class_numbers};
+use crate::free_numbers::free_numbers;
 use class_tables::PrivateTable;
 use free_names::base54;
 use oxc_data_structures::inline_string::InlineString;
@@ -39,9 +40,10 @@ impl<'n, 'l, 't> PrivateNumbers<'n, 'l, 't> {
         if count > 4_294_967_295 {
             return Err(AllocError);
         }
+        let free = free_numbers(alloc, table, count as u32)?;
         let mut classes = Vec::new(alloc);
         for class_body in 0..count as u32 {
-            let numbers = class_numbers(alloc, table, class_body)?;
+            let numbers = class_numbers(alloc, table, free.as_slice(), class_body)?;
             classes.push(numbers)?;
         }
         Ok(PrivateNumbers { table, classes })

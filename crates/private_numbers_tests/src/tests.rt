@@ -99,6 +99,38 @@ fn beside_eval(alloc: Global) -> Result<Field, AllocError> {
     class(alloc, members)
 }
 
+// `class { #t; m = eval(); m = class { #z } }`
+fn inner_open(alloc: Global) -> Result<Field, AllocError> {
+    let members = vec![in alloc;
+        private_member(alloc, "t", Field::Empty)?,
+        public_member(alloc, call_of_eval(alloc)?)?,
+        public_member(alloc, small_class(alloc, "z", "z")?)?,
+    ]?;
+    class(alloc, members)
+}
+
+// `class { #a; #b; m = class { #c = #a } }`
+fn inner_closed(alloc: Global) -> Result<Field, AllocError> {
+    let members = vec![in alloc;
+        private_member(alloc, "a", Field::Empty)?,
+        private_member(alloc, "b", Field::Empty)?,
+        public_member(alloc, small_class(alloc, "c", "a")?)?,
+    ]?;
+    class(alloc, members)
+}
+
+// `class { #e; #n; m = class { .. }; m = class { .. }; m = class { #y = #e } }`, with the two classes above
+fn both_inside(alloc: Global) -> Result<Field, AllocError> {
+    let members = vec![in alloc;
+        private_member(alloc, "e", Field::Empty)?,
+        private_member(alloc, "n", Field::Empty)?,
+        public_member(alloc, inner_closed(alloc)?)?,
+        public_member(alloc, inner_open(alloc)?)?,
+        public_member(alloc, small_class(alloc, "y", "e")?)?,
+    ]?;
+    class(alloc, members)
+}
+
 // Whether the new name is this one, or stays where none is wanted.
 fn is_wanted(new_name: Option<InlineString<7, u8>>, wanted: &str) -> bool {
     match new_name {
@@ -171,5 +203,23 @@ fn class_bodies_have_numbers(rt: HostRuntime) -> Result<(), Fail> {
     assert!(rt; numbers.new_class_name(0, 0).is_none(), "open");
     let name = numbers.new_class_name(1, 0).ok_or("no name")?;
     assert!(rt; name.as_str() == "t");
+    Ok(())
+}
+
+#[test]
+fn open_classes_nest(rt: HostRuntime) -> Result<(), Fail> {
+    let alloc = rt.alloc();
+    let root = program(alloc, both_inside(alloc)?)?;
+    let list = list_places(alloc, &root)?;
+    let table = PrivateTable::new(alloc, &list)?;
+    let numbers = PrivateNumbers::new(alloc, &table)?;
+    assert!(rt; list.class_bodies.len() == 6);
+    assert!(rt; numbers.number(0, 0).is_none(), "open");
+    assert!(rt; numbers.number(1, 0) == Some(1), "t");
+    assert!(rt; numbers.number(1, 1) == Some(3), "r, past n");
+    assert!(rt; numbers.number(2, 0) == Some(4), "i");
+    assert!(rt; numbers.number(3, 0).is_none(), "open");
+    assert!(rt; numbers.number(4, 0) == Some(3), "r, past t and n");
+    assert!(rt; numbers.number(5, 0) == Some(1), "t");
     Ok(())
 }

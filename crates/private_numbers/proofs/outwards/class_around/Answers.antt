@@ -3,7 +3,7 @@ use Rattle.std.proofs.Common.{sym, subst}
 use Rattle.place_list.specs.Bounds.{IsBounded}
 use Rattle.place_list.specs.TableViews.{classes_at, list_view}
 use Rattle.place_list.specs.declared.tables.PlaceList.{PlaceList}
-use Rattle.private_numbers.proofs.avoided.class_around.Goals as goal
+use Rattle.private_numbers.proofs.outwards.class_around.Goals as goal
 
 pub outer_class-requires-clause-bounded : goal.outer_class-requires-clause-bounded
 outer_class-requires-clause-bounded c = subst (λ (l : PlaceList). IsBounded (list_view l)) (sym c.list.ensures) c.requires.whole.bounded
