@@ -7,3 +7,4 @@ pub mod Renaming
 pub mod OneMore
 pub mod Listed
 pub mod Analysed
+pub mod OneRoot

@@ -3,3 +3,4 @@ pub mod ClassesAround
 pub mod ClassBodies
 pub mod Renamed
 pub mod Semantics
+pub mod Laws

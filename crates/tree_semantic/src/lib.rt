@@ -4,6 +4,7 @@
 mod around;
 mod builder;
 mod classes;
+pub mod laws;
 mod nodes;
 mod private_names;
 mod semantic;
