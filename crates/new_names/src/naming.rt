@@ -49,7 +49,7 @@ pub fn new_names<A: Allocator + Copy>(
     ensures { IfOk result (λ n. (t : Parts) → IsListOf tables.now.list t → AreNewNames (options_in options.now top_level) t tables.now.list n) }
 {
     let list = &tables.list;
-    let groups = groups_of_places(*list.places.allocator(), options, top_level, tables)?;
+    let groups = groups_of_places(alloc, options, top_level, tables)?;
     let found = slots_of_groups(alloc, list, groups.as_slice())?;
     let guard = taken_names(alloc, options, list, groups.as_slice())?;
     let slots = found.weights.len();
