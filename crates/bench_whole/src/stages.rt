@@ -95,7 +95,7 @@ fn names_by(
 {
     let private = PrivateTable::new(alloc, &tables.list)?;
     let numbers = PrivateNumbers::new(alloc, &private)?;
-    new_names(alloc, alloc, options, top_level, tables, &numbers)
+    new_names(alloc, options, top_level, tables, &numbers)
 }
 
 // Whether each of these has few enough bytes to be a name of a program.

@@ -7,16 +7,16 @@ ghost use Rattle.name_rules.specs.ShortNames.{candidate, readable_name};
 
 use crate::guard::Guard;
 use crate::short_names::base54;
-use std::alloc::{AllocError, Global};
+use std::alloc::{AllocError, Allocator};
 
 /// The first `count` candidates that `guard` doesn't refuse, in their order: short names, or `readable`
 /// ones, which are `slot_0`, `slot_1` and so on. Err is want of memory.
-pub fn free_names(
-    alloc: Global,
-    guard: &Guard,
+pub fn free_names<A: Allocator + Copy>(
+    alloc: A,
+    guard: &Guard<A>,
     readable: bool,
     count: usize,
-) -> Result<Vec<String>, AllocError>
+) -> Result<Vec<String<A>, A>, AllocError>
     requires low { count ≤ 2 ^ 30 }
     requires few { length guard.now ≤ 2 ^ 30 }
     ensures many { IfOk result (λ v. vec_len v ≡ count) }
@@ -34,10 +34,10 @@ pub fn free_names(
 }
 
 // Appends `name` where `guard` doesn't refuse it.
-fn push_unless_refused(
-    names: &mut Vec<String>,
-    name: String,
-    guard: &Guard,
+fn push_unless_refused<A: Allocator>(
+    names: &mut Vec<String<A>, A>,
+    name: String<A>,
+    guard: &Guard<A>,
 ) -> Result<(), AllocError>
     ensures { OnOk result (map string_bytes names.new.items ≡ map string_bytes names.old.items ++ (if is_refused guard.now (string_bytes name) then [] else string_bytes name ∷ [])) }
 {
@@ -49,7 +49,7 @@ fn push_unless_refused(
 
 // The candidate with the number `n`, from 0.
 #[tactic(auto, unfolding(name_rules::specs::ShortNames::candidate))]
-fn candidate(alloc: Global, readable: bool, n: u32) -> Result<String, AllocError>
+fn candidate<A: Allocator>(alloc: A, readable: bool, n: u32) -> Result<String<A>, AllocError>
     ensures { IfOk result (λ name. string_bytes name ≡ candidate readable n) }
 {
     if readable {
@@ -61,7 +61,7 @@ fn candidate(alloc: Global, readable: bool, n: u32) -> Result<String, AllocError
 
 // `slot_` and `n`.
 #[tactic(auto, using(crate::proofs::FirstFree::readable_told))]
-fn readable_name(alloc: Global, n: u32) -> Result<String, AllocError>
+fn readable_name<A: Allocator>(alloc: A, n: u32) -> Result<String<A>, AllocError>
     ensures { IfOk result (λ name. string_bytes name ≡ readable_name n) }
 {
     format!(in alloc; "slot_{n}")

@@ -4,20 +4,21 @@ ghost use Rattle.std.specs.Prelude.{◌≡◌, ◌+◌, [], length, IfOk, OnErr,
 ghost use Rattle.free_names.specs.Guard.{HasAlso, is_never_given, is_refused};
 ghost use Rattle.scope_rules.specs.PrivateNames.{is_among};
 
-use std::alloc::{AllocError, Global};
+use std::alloc::{AllocError, Allocator, Global};
 use std::collections::HashSet;
+use std::hash::{BuildHasherDefault, FoldHasher};
 use std::marker::Model;
 use syntax_lex::keyword::is_reserved_keyword;
 
 /// A set of names that must not be given. Contracts see it as those that were inserted, each once; it
 /// refuses the reserved keywords, `eval` and `arguments` besides.
 #[derive(Drop)]
-pub struct Guard {
-    names: HashSet<String>,
-    alloc: Global,
+pub struct Guard<A: Allocator = Global> {
+    names: HashSet<String<A>, BuildHasherDefault<FoldHasher>, A>,
+    alloc: A,
 }
 
-impl Model for Guard {
+impl<A: Allocator> Model for Guard<A> {
     ghost use Rattle.std.specs.Prelude.{List, ℕ, map, string_bytes};
 
     ghost Value = { List (List ℕ) };
@@ -25,9 +26,11 @@ impl Model for Guard {
     ghost view = { λ g. map string_bytes g.names.keys };
 }
 
-impl Guard {
+impl<A: Allocator> Guard<A> {
     /// No name is inserted yet.
-    pub fn new(alloc: Global) -> Self
+    pub fn new(alloc: A) -> Self
+    where
+        A: Copy,
         ensures { result ≡ [] }
     {
         Guard {
@@ -38,6 +41,8 @@ impl Guard {
 
     /// Puts the name in, if it isn't there yet. Err is want of memory, and the set is as before.
     pub fn insert(&mut self, name: &str) -> Result<(), AllocError>
+    where
+        A: Copy,
         ensures names { IfOk result (λ _. HasAlso self.old name.now self.new) }
         ensures once { IfOk result (λ _. length self.new ≡ length self.old + (if is_among self.old name.now then 0 else 1)) }
         ensures err { OnErr result (self.new ≡ self.old) }

@@ -17,7 +17,7 @@ use Rattle.scope_rules.specs.Evals.{holds_eval, is_eval}
 use Rattle.tree_places.specs.Places.{Place}
 use Rattle.tree_places.specs.Scopes.{Scope, is_inside, same_scope}
 
-pub flags_hold : (l : PlaceList) (test : Scope → Bool) (f : ScopeFlags) → f.inside ≡ map test (scopes_in l) → f.outside ≡ test [] → HasFlags l test f
+pub flags_hold : {A : Type 0} (l : PlaceList) (test : Scope → Bool) (f : ScopeFlags A) → f.inside ≡ map test (scopes_in l) → f.outside ≡ test [] → HasFlags l test f
 unfolding flag_at list_at
 flags_hold l test f inside outside None h = outside
 flags_hold l test f inside outside (Some n) h =

@@ -15,7 +15,7 @@ use Rattle.scope_rules.specs.Evals.{holds_eval}
 use Rattle.tree_nodes.specs.Tree.{Text}
 
 -- these are the causes under these options, where the places of the list are bound so
-pub record AreCauses (o : Options) (l : PlaceList) (bs : List (Bound Text)) (c : Causes) : Type 0 where
+pub record AreCauses {A : Type 0} (o : Options) (l : PlaceList) (bs : List (Bound Text)) (c : Causes A) : Type 0 where
   pub top_level : c.top_level ≡ o.top_level
   pub reserved : (x : Text) → is_reserved_by c.reserved x ≡ is_reserved o x
   pub exported : HasExported bs c.exported

@@ -26,6 +26,6 @@ abbrev pub first_value : BTreeMap InDeclarator Bool → ℕ → ℕ → Bool
 first_value m d n = unwrap_or (at_declarator m d n) false
 
 -- it has what these places say
-pub record KeepsNames (bs : List (Bound Text)) (k : NamesKept) : Type 0 where
+pub record KeepsNames {A : Type 0} (bs : List (Bound Text)) (k : NamesKept A) : Type 0 where
   pub values : HasFirstValues (keeping k.keep) bs k.values
   pub assigned : HasAssigned (keeping k.keep) bs k.assigned

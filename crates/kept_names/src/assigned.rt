@@ -12,15 +12,15 @@ use crate::roles::value_kept;
 use mangle_options::MangleOptionsKeepNames;
 use scope_tables::sets::put;
 use scope_tables::sites::refers;
-use std::alloc::{AllocError, Global};
+use std::alloc::{AllocError, Allocator};
 use std::collections::BTreeSet;
 
 /// Those of these places. Err is want of memory.
-pub fn assigned_bindings(
-    alloc: Global,
+pub fn assigned_bindings<A: Allocator + Copy>(
+    alloc: A,
     keep: MangleOptionsKeepNames,
     places: &[BoundPlace<'_>],
-) -> Result<BTreeSet<u32>, AllocError>
+) -> Result<BTreeSet<u32, A>, AllocError>
     ensures { IfOk result (λ s. (l : PlaceList) → HasAssigned (keeping keep) (bounds_of l places.now) s) }
 {
     let mut assigned = BTreeSet::new(alloc);

@@ -11,7 +11,7 @@ ghost use Rattle.kept_names.specs.Views.{AreWhole, IsShadowed, bound_of};
 use place_list::PlaceEntry;
 use scope_tables::ScopeTables;
 use scope_tables::sites::{declares, is_node};
-use std::alloc::{AllocError, Global};
+use std::alloc::{AllocError, Allocator};
 
 // A place with its binding and its shadower, by the numbers of their nodes.
 #[derive(Clone, Copy)]
@@ -22,10 +22,10 @@ pub(crate) struct BoundPlace<'t> {
 }
 
 // All places. Err is want of memory.
-pub(crate) fn bound_places<'t>(
-    alloc: Global,
+pub(crate) fn bound_places<'t, A: Allocator>(
+    alloc: A,
     tables: &ScopeTables<'t>,
-) -> Result<Vec<BoundPlace<'t>>, AllocError>
+) -> Result<Vec<BoundPlace<'t>, A>, AllocError>
     requires { AreTables tables.now }
     ensures { IfOk result (λ v. AreWhole tables.now.list v.items) }
 {

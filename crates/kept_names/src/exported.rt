@@ -9,14 +9,14 @@ ghost use Rattle.scope_rules.specs.Bindings.{is_node};
 use crate::bound::BoundPlace;
 use scope_tables::sets::put;
 use scope_tables::sites::declares;
-use std::alloc::{AllocError, Global};
+use std::alloc::{AllocError, Allocator};
 use std::collections::BTreeSet;
 
 /// Those of these places. Err is want of memory.
-pub fn exported_bindings(
-    alloc: Global,
+pub fn exported_bindings<A: Allocator + Copy>(
+    alloc: A,
     places: &[BoundPlace<'_>],
-) -> Result<BTreeSet<u32>, AllocError>
+) -> Result<BTreeSet<u32, A>, AllocError>
     ensures { IfOk result (λ s. (l : PlaceList) → HasExported (bounds_of l places.now) s) }
 {
     let mut exported = BTreeSet::new(alloc);

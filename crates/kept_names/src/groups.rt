@@ -18,17 +18,18 @@ use crate::kept::{Causes, kept_bindings};
 use mangle_options::MangleOptions;
 use scope_tables::ScopeTables;
 use scope_tables::sets::has;
-use std::alloc::{AllocError, Global};
+use std::alloc::{AllocError, Allocator};
 use std::collections::{BTreeMap, BTreeSet};
 
 /// Of each place of the tree its group, by the number of the leader's node: none where it has no binding or a
-/// kept one. Bindings of the root may be renamed if `top_level`. Err is want of memory.
-pub fn groups_of_places(
-    alloc: Global,
+/// kept one. Bindings of the root may be renamed if `top_level`. All that is made lies in `alloc`. Err is want of
+/// memory.
+pub fn groups_of_places<A: Allocator + Copy>(
+    alloc: A,
     options: &MangleOptions,
     top_level: bool,
     tables: &ScopeTables<'_>,
-) -> Result<Vec<Option<u32>>, AllocError>
+) -> Result<Vec<Option<u32>, A>, AllocError>
     requires { AreTables tables.now }
     ensures { IfOk result (λ v. v.items ≡ map (λ m. m.group) (members_of (options_in options.now top_level) (withs_in tables.now.list) (places_in tables.now.list))) }
 {
@@ -40,11 +41,11 @@ pub fn groups_of_places(
 }
 
 // Of each binding among these places its group. Err is want of memory.
-fn groups_of_bindings(
-    alloc: Global,
-    kept: &BTreeSet<u32>,
+fn groups_of_bindings<A: Allocator + Copy>(
+    alloc: A,
+    kept: &BTreeSet<u32, A>,
     places: &[BoundPlace<'_>],
-) -> Result<BTreeMap<u32, Option<u32>>, AllocError>
+) -> Result<BTreeMap<u32, Option<u32>, A>, AllocError>
     ensures { IfOk result (λ m. (l : PlaceList) (ks : List ℕ) → HasNumbers ks kept.now → ((b : BoundPlace) → Contains places.now b → IsShadowed l b) → HasGroups ks (places_in l) (bounds_of l places.now) m) }
 {
     let mut groups = BTreeMap::new(alloc);
@@ -55,9 +56,9 @@ fn groups_of_bindings(
 }
 
 // Puts the group of the place, if it is a binding.
-fn put_group(
-    groups: &mut BTreeMap<u32, Option<u32>>,
-    kept: &BTreeSet<u32>,
+fn put_group<A: Allocator + Copy>(
+    groups: &mut BTreeMap<u32, Option<u32>, A>,
+    kept: &BTreeSet<u32, A>,
     place: &BoundPlace<'_>,
 ) -> Result<(), AllocError>
     ensures { OnOk result (TakesGroup kept.now place.now groups.old groups.new) }
@@ -70,8 +71,8 @@ fn put_group(
 }
 
 // Puts the group under the node, unless one is there.
-fn put_first(
-    groups: &mut BTreeMap<u32, Option<u32>>,
+fn put_first<A: Allocator + Copy>(
+    groups: &mut BTreeMap<u32, Option<u32>, A>,
     node: u32,
     group: Option<u32>,
 ) -> Result<(), AllocError>
@@ -85,7 +86,7 @@ fn put_first(
 
 // The group of a binding, if it isn't kept: that of its shadower, or else its own.
 #[tactic(auto, unfolding(name_rules::specs::Groups::group_of))]
-fn group_of(kept: &BTreeSet<u32>, node: u32, shadower: Option<u32>) -> Option<u32>
+fn group_of<A: Allocator>(kept: &BTreeSet<u32, A>, node: u32, shadower: Option<u32>) -> Option<u32>
     ensures { (ks : List ℕ) → HasNumbers ks kept.now → result ≡ group_of ks node shadower }
 {
     if is_kept(kept, node, shadower) {
@@ -98,14 +99,14 @@ fn group_of(kept: &BTreeSet<u32>, node: u32, shadower: Option<u32>) -> Option<u3
 }
 
 // Whether a binding is kept: alone, or with its shadower.
-fn is_kept(kept: &BTreeSet<u32>, node: u32, shadower: Option<u32>) -> bool
+fn is_kept<A: Allocator>(kept: &BTreeSet<u32, A>, node: u32, shadower: Option<u32>) -> bool
     ensures { (ks : List ℕ) → HasNumbers ks kept.now → result ≡ is_kept ks node shadower }
 {
     has(kept, node) || has_number(kept, shadower)
 }
 
 // Whether it is a number that the set has.
-fn has_number(kept: &BTreeSet<u32>, number: Option<u32>) -> bool
+fn has_number<A: Allocator>(kept: &BTreeSet<u32, A>, number: Option<u32>) -> bool
     ensures { (ks : List ℕ) → HasNumbers ks kept.now → result ≡ has_number ks number }
 {
     match number {
@@ -115,11 +116,11 @@ fn has_number(kept: &BTreeSet<u32>, number: Option<u32>) -> bool
 }
 
 // Of each of these places the group of its binding. Err is want of memory.
-fn groups_by_place(
-    alloc: Global,
-    groups: &BTreeMap<u32, Option<u32>>,
+fn groups_by_place<A: Allocator>(
+    alloc: A,
+    groups: &BTreeMap<u32, Option<u32>, A>,
     places: &[BoundPlace<'_>],
-) -> Result<Vec<Option<u32>>, AllocError>
+) -> Result<Vec<Option<u32>, A>, AllocError>
     ensures { IfOk result (λ v. v.items ≡ map (λ b. group_in groups.now b.binding) places.now) }
 {
     let mut by_place = Vec::new(alloc);
@@ -130,7 +131,10 @@ fn groups_by_place(
 }
 
 // The group of a binding.
-fn group_in(groups: &BTreeMap<u32, Option<u32>>, binding: Option<u32>) -> Option<u32>
+fn group_in<A: Allocator>(
+    groups: &BTreeMap<u32, Option<u32>, A>,
+    binding: Option<u32>,
+) -> Option<u32>
     ensures { result ≡ group_in groups.now binding }
 {
     match binding {

@@ -22,29 +22,31 @@ use mangle_options::{MangleOptions, ReservedNames};
 use place_list::PlaceList;
 use scope_tables::sets::{has, put};
 use scope_tables::sites::home;
-use std::alloc::{AllocError, Global};
+use std::alloc::{AllocError, Allocator};
 use std::collections::BTreeSet;
 
 /// What decides whether a binding is kept.
 #[derive(Drop)]
-pub struct Causes<'o> {
+pub struct Causes<'o, A: Allocator> {
     pub top_level: bool,
-    pub reserved: ReservedNames<'o>,
-    pub exported: BTreeSet<u32>,
-    pub names: NamesKept,
-    pub evals: ScopeFlags,
-    pub withs: ScopeFlags,
+    pub reserved: ReservedNames<'o, A>,
+    pub exported: BTreeSet<u32, A>,
+    pub names: NamesKept<A>,
+    pub evals: ScopeFlags<A>,
+    pub withs: ScopeFlags<A>,
 }
 
-impl<'o> Causes<'o> {
+impl<'o, A: Allocator> Causes<'o, A> {
     /// The causes under these options, given all places of the list. Err is want of memory.
     pub fn new(
-        alloc: Global,
+        alloc: A,
         options: &'o MangleOptions,
         top_level: bool,
         list: &PlaceList<'_>,
         places: &[BoundPlace<'_>],
     ) -> Result<Self, AllocError>
+    where
+        A: Copy,
         requires { IsBounded (list_view list.now) }
         ensures { IfOk result (λ c. AreCauses (options_in options.now top_level) list.now (bounds_of list.now places.now) c) }
     {
@@ -126,12 +128,12 @@ fn is_root(list: &PlaceList<'_>, scope: Option<u32>) -> bool
 }
 
 /// The bindings among these places that are kept for these causes. Err is want of memory.
-pub fn kept_bindings(
-    alloc: Global,
+pub fn kept_bindings<A: Allocator + Copy>(
+    alloc: A,
     list: &PlaceList<'_>,
-    causes: &Causes<'_>,
+    causes: &Causes<'_, A>,
     places: &[BoundPlace<'_>],
-) -> Result<BTreeSet<u32>, AllocError>
+) -> Result<BTreeSet<u32, A>, AllocError>
     requires { AllStand list.now places.now }
     ensures { IfOk result (λ s. (o : Options) (bs : List (Bound Text)) → AreCauses o list.now bs causes.now → (n : ℕ) → has s n ≡ list_any (keeps_alone o list.now bs n) (bounds_of list.now places.now)) }
 {
@@ -143,7 +145,11 @@ pub fn kept_bindings(
 }
 
 // The binding that the place is, if it is kept.
-fn kept_binding(list: &PlaceList<'_>, causes: &Causes<'_>, place: &BoundPlace<'_>) -> Option<u32>
+fn kept_binding<A: Allocator>(
+    list: &PlaceList<'_>,
+    causes: &Causes<'_, A>,
+    place: &BoundPlace<'_>,
+) -> Option<u32>
     requires { Stands list.now place.now.place }
     ensures { (o : Options) (bs : List (Bound Text)) (n : ℕ) → AreCauses o list.now bs causes.now → is_node result n ≡ keeps_alone o list.now bs n (bound_of list.now place.now) }
 {

@@ -20,7 +20,7 @@ use crate::values::{InDeclarator, first_values};
 use mangle_options::MangleOptionsKeepNames;
 use scope_tables::ScopeTables;
 use scope_tables::sets::has;
-use std::alloc::{AllocError, Global};
+use std::alloc::{AllocError, Allocator, Global};
 use std::collections::{BTreeMap, BTreeSet};
 
 /// Of each place of the tree whether it is a binding that keeps its name as a function or a class. Err is want
@@ -40,19 +40,21 @@ pub fn names_kept(
 
 // What the places of a tree say of the names of functions and classes.
 #[derive(Drop)]
-pub(crate) struct NamesKept {
+pub(crate) struct NamesKept<A: Allocator> {
     pub keep: MangleOptionsKeepNames,
-    pub values: BTreeMap<InDeclarator, bool>,
-    pub assigned: BTreeSet<u32>,
+    pub values: BTreeMap<InDeclarator, bool, A>,
+    pub assigned: BTreeSet<u32, A>,
 }
 
-impl NamesKept {
+impl<A: Allocator> NamesKept<A> {
     // What these places say. Err is want of memory.
     pub fn new(
-        alloc: Global,
+        alloc: A,
         keep: MangleOptionsKeepNames,
         places: &[BoundPlace<'_>],
     ) -> Result<Self, AllocError>
+    where
+        A: Copy,
         ensures names { IfOk result (λ k. (l : PlaceList) → KeepsNames (bounds_of l places.now) k) }
         ensures keep { IfOk result (λ k. k.keep ≡ keep) }
     {
@@ -112,7 +114,7 @@ fn is_any(by_role: bool, declared_with: bool, assigned: bool) -> bool
 // Of each of these places whether it is a binding that keeps its name.
 fn kept_by_place(
     alloc: Global,
-    names: &NamesKept,
+    names: &NamesKept<Global>,
     places: &[BoundPlace<'_>],
 ) -> Result<Vec<bool>, AllocError>
     ensures { IfOk result (λ v. (l : PlaceList) (bs : List (Bound Text)) → KeepsNames bs names.now → v.items ≡ map (spec.keeps_name (keeping names.now.keep) bs) (bounds_of l places.now)) }

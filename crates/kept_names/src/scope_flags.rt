@@ -12,18 +12,18 @@ ghost use Rattle.scope_tables.specs.Views.{places_of};
 use arena_core::BitSet;
 use place_list::{PlaceEntry, PlaceList};
 use scope_marks::{is_eval, scopes_with_evals, scopes_with_withs};
-use std::alloc::{AllocError, Global};
+use std::alloc::{AllocError, Allocator};
 
 /// Flags of scopes, by their numbers, and of what lies outside all of them.
 #[derive(Drop)]
-pub struct ScopeFlags {
-    pub inside: BitSet<Global>,
+pub struct ScopeFlags<A: Allocator> {
+    pub inside: BitSet<A>,
     pub outside: bool,
 }
 
-impl ScopeFlags {
+impl<A: Allocator> ScopeFlags<A> {
     /// The scopes that hold a direct eval. Err is want of memory.
-    pub fn evals(alloc: Global, list: &PlaceList<'_>) -> Result<Self, AllocError>
+    pub fn evals(alloc: A, list: &PlaceList<'_>) -> Result<Self, AllocError>
         requires { IsBounded (list_view list.now) }
         ensures { IfOk result (λ f. HasFlags list.now (evals.holds_eval (places_in list.now)) f) }
     {
@@ -34,7 +34,7 @@ impl ScopeFlags {
     }
 
     /// The scopes that hold a WithStatement. Err is want of memory.
-    pub fn withs(alloc: Global, list: &PlaceList<'_>) -> Result<Self, AllocError>
+    pub fn withs(alloc: A, list: &PlaceList<'_>) -> Result<Self, AllocError>
         requires { IsBounded (list_view list.now) }
         ensures { IfOk result (λ f. HasFlags list.now (holds_with (withs_in list.now)) f) }
     {

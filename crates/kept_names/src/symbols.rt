@@ -52,7 +52,7 @@ fn symbols_kept(
 // Of each binding among these places whether it keeps its name. Err is want of memory.
 fn kept_by_symbol(
     alloc: Global,
-    names: &NamesKept,
+    names: &NamesKept<Global>,
     places: &[BoundPlace<'_>],
 ) -> Result<Vec<bool>, AllocError>
     ensures { IfOk result (λ v. (l : PlaceList) (bs : List (Bound Text)) → KeepsNames bs names.now → v.items ≡ map (name_kept (keeping names.now.keep) bs) (filter is_binding (bounds_of l places.now))) }
@@ -67,7 +67,7 @@ fn kept_by_symbol(
 // Pushes whether the place keeps its name, if it is a binding.
 fn push_kept(
     kept: &mut Vec<bool>,
-    names: &NamesKept,
+    names: &NamesKept<Global>,
     place: &BoundPlace<'_>,
 ) -> Result<(), AllocError>
     ensures { OnOk result ((l : PlaceList) (bs : List (Bound Text)) → KeepsNames bs names.now → kept.new.items ≡ kept.old.items ++ map (name_kept (keeping names.now.keep) bs) (filter is_binding (bound_of l place.now ∷ []))) }

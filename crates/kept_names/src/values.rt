@@ -12,7 +12,7 @@ use crate::bound::BoundPlace;
 use crate::roles::{has_value, value_kept};
 use mangle_options::MangleOptionsKeepNames;
 use scope_tables::sites::declares;
-use std::alloc::{AllocError, Global};
+use std::alloc::{AllocError, Allocator};
 use std::collections::BTreeMap;
 
 /// A binding in the pattern of a declarator, both by the numbers of their nodes.
@@ -24,11 +24,11 @@ pub struct InDeclarator {
 
 /// Of each binding in each declarator that gives it a value, whether the first such value is one for which names
 /// are kept. Err is want of memory.
-pub fn first_values(
-    alloc: Global,
+pub fn first_values<A: Allocator + Copy>(
+    alloc: A,
     keep: MangleOptionsKeepNames,
     places: &[BoundPlace<'_>],
-) -> Result<BTreeMap<InDeclarator, bool>, AllocError>
+) -> Result<BTreeMap<InDeclarator, bool, A>, AllocError>
     ensures { IfOk result (λ m. (l : PlaceList) → HasFirstValues (keeping keep) (bounds_of l places.now) m) }
 {
     let mut values = BTreeMap::new(alloc);
@@ -87,8 +87,8 @@ fn bound_in(declarator: u32, binding: Option<u32>) -> Option<InDeclarator>
 }
 
 // Puts the value under the key, unless one is there.
-fn put_first(
-    values: &mut BTreeMap<InDeclarator, bool>,
+fn put_first<A: Allocator + Copy>(
+    values: &mut BTreeMap<InDeclarator, bool, A>,
     key: InDeclarator,
     value: bool,
 ) -> Result<(), AllocError>

@@ -73,7 +73,7 @@ pub record HasGroups (l : PlaceList) (os : List (Option ℕ)) : Type 0 where
   pub are : AreGroupsOf l os options tree
 
 -- these are the slots of a tree's places, the weights of the slots, and a scope as wide as there are slots
-pub record AreSlots (l : PlaceList) (s : Slots) (o : Options) (t : Parts) : Type 0 where
+pub record AreSlots {A : Type 0} (l : PlaceList) (s : Slots A) (o : Options) (t : Parts) : Type 0 where
   pub places : s.places.items ≡ map (λ m. slot_of (slots_of o t) m.group) (members o t)
   pub weights : s.weights.items ≡ map (weight (members o t) (slots_of o t)) (count_from (number_of_slots (slots_of o t)) 0)
   pub busiest : width (members o t) (groups_of o t) (scope_at l (Some s.busiest)) ≡ number_of_slots (slots_of o t)

@@ -46,7 +46,7 @@ fn mark_group<A: Allocator>(
 // Lets there be marks for this slot: none are set where it is new.
 fn reach<A: Allocator + Copy>(
     alloc: A,
-    marks: &mut Vec<BitSet<A>>,
+    marks: &mut Vec<BitSet<A>, A>,
     slot: usize,
     scopes: usize,
 ) -> Result<(), AllocError>
@@ -61,7 +61,7 @@ fn reach<A: Allocator + Copy>(
 // Gives a group its slot and marks it there. Err is want of memory.
 pub(crate) fn give_slot<A: Allocator + Copy>(
     alloc: A,
-    marks: &mut Vec<BitSet<A>>,
+    marks: &mut Vec<BitSet<A>, A>,
     list: &PlaceList<'_>,
     from: usize,
     home: usize,

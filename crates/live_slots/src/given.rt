@@ -12,7 +12,7 @@ use crate::buckets::Bucket;
 use crate::give::give_slot;
 use crate::leaders::Leader;
 use place_list::PlaceList;
-use std::alloc::{AllocError, Allocator, Global};
+use std::alloc::{AllocError, Allocator};
 
 // From which slot on a group at `home` asks, where the group before it, at `last`, left off at `from`: a
 // slot before that is taken at that home.
@@ -24,23 +24,22 @@ fn asks_from(home: usize, last: usize, from: usize) -> usize
 
 // The slots of groups.
 #[derive(Drop)]
-pub(crate) struct LiveSlots {
+pub(crate) struct LiveSlots<A: Allocator> {
     // Of each group its slot.
-    pub of_groups: Vec<usize>,
+    pub of_groups: Vec<usize, A>,
     // How many slots there are: they are numbered from 0.
     pub count: usize,
 }
 
 // The slot of each group: the lowest that no earlier group has which is in use at its home. Groups that
 // are never in use in one scope may share one. `by_node` has of each leader's node the scopes of its group's
-// places. The sets of scopes lie in `sets`. Err is want of memory.
+// places. Err is want of memory.
 pub(crate) fn live_slots<A: Allocator + Copy>(
-    alloc: Global,
-    sets: A,
+    alloc: A,
     list: &PlaceList<'_>,
     leaders: &[Leader],
-    by_node: &[Bucket],
-) -> Result<LiveSlots, AllocError>
+    by_node: &[Bucket<A>],
+) -> Result<LiveSlots<A>, AllocError>
     requires bounded { IsBounded (list_view list.now) }
     requires nodes { All (λ r. r.node < length by_node.now) leaders.now }
     requires homes { All (λ r. r.home < length list.now.scopes.items) leaders.now }
@@ -58,7 +57,7 @@ pub(crate) fn live_slots<A: Allocator + Copy>(
         let home = leader.home as usize;
         let start = asks_from(home, last, from);
         let places = by_node[leader.node as usize].as_slice();
-        let slot = give_slot(sets, &mut marks, list, start, home, places)?;
+        let slot = give_slot(alloc, &mut marks, list, start, home, places)?;
         of_groups.push(slot)?;
         last = home;
         from = slot + 1;

@@ -7,14 +7,14 @@ ghost use Rattle.place_list.specs.Bounds.{IsBelow};
 ghost use Rattle.scope_rules.specs.Homes as rules;
 
 use place_list::{PlaceEntry, PlaceList};
-use std::alloc::{AllocError, Global};
+use std::alloc::{AllocError, Allocator};
 use tree_nodes::{Declared, Role};
 
 // Of each place the number of its scope. Err is want of memory.
-pub(crate) fn place_scopes(
-    alloc: Global,
+pub(crate) fn place_scopes<A: Allocator>(
+    alloc: A,
     places: &[PlaceEntry<'_>],
-) -> Result<Vec<Option<u32>>, AllocError>
+) -> Result<Vec<Option<u32>, A>, AllocError>
     ensures { IfOk result (λ v. v.items ≡ map (λ e. e.setting.scope) places.now) }
 {
     let mut scopes = Vec::new(alloc);
@@ -25,11 +25,11 @@ pub(crate) fn place_scopes(
 }
 
 // Of each place that leads its group the number of its home. Err is want of memory.
-pub(crate) fn leader_homes(
-    alloc: Global,
+pub(crate) fn leader_homes<A: Allocator>(
+    alloc: A,
     places: &[PlaceEntry<'_>],
     groups: &[Option<u32>],
-) -> Result<Vec<Option<u32>>, AllocError>
+) -> Result<Vec<Option<u32>, A>, AllocError>
     requires { length groups.now ≡ length places.now }
     ensures { IfOk result (λ v. v.items ≡ homes_led places.now groups.now) }
 {

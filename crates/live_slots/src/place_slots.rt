@@ -6,15 +6,15 @@ ghost use Rattle.live_slots.specs.Slots.{first_slot, put_first, slot_in};
 ghost use Rattle.place_list.specs.Bounds.{IsBelow};
 
 use crate::leaders::{Leader, number};
-use std::alloc::{AllocError, Global};
+use std::alloc::{AllocError, Allocator};
 
 // Of each node below the bound the slot of the group that it leads. Err is want of memory, or of numbers.
-pub(crate) fn node_slots(
-    alloc: Global,
+pub(crate) fn node_slots<A: Allocator>(
+    alloc: A,
     leaders: &[Leader],
     slots: &[usize],
     bound: usize,
-) -> Result<Vec<Option<u32>>, AllocError>
+) -> Result<Vec<Option<u32>, A>, AllocError>
     requires long { length slots.now ≡ length leaders.now }
     requires below { All (λ r. r.node < bound) leaders.now }
     ensures many { IfOk result (λ v. length v.items ≡ bound) }
@@ -28,7 +28,7 @@ pub(crate) fn node_slots(
     Ok(by_node)
 }
 
-fn no_slots(alloc: Global, count: usize) -> Result<Vec<Option<u32>>, AllocError>
+fn no_slots<A: Allocator>(alloc: A, count: usize) -> Result<Vec<Option<u32>, A>, AllocError>
     ensures { IfOk result (λ v. v.items ≡ replicate count None) }
 {
     let mut all = Vec::new(alloc);
@@ -39,7 +39,7 @@ fn no_slots(alloc: Global, count: usize) -> Result<Vec<Option<u32>>, AllocError>
 }
 
 // Puts the slot at the node that has none yet.
-fn put_first(by_node: &mut Vec<Option<u32>>, node: u32, slot: u32)
+fn put_first<A: Allocator>(by_node: &mut Vec<Option<u32>, A>, node: u32, slot: u32)
     requires { node < length by_node.old.items }
     ensures { by_node.new.items ≡ put_first by_node.old.items node slot }
 {
@@ -50,11 +50,11 @@ fn put_first(by_node: &mut Vec<Option<u32>>, node: u32, slot: u32)
 }
 
 // Of each place the slot of its group. Err is want of memory.
-pub(crate) fn place_slots(
-    alloc: Global,
+pub(crate) fn place_slots<A: Allocator>(
+    alloc: A,
     groups: &[Option<u32>],
     by_node: &[Option<u32>],
-) -> Result<Vec<Option<u32>>, AllocError>
+) -> Result<Vec<Option<u32>, A>, AllocError>
     requires { AllByRecursion (IsBelow (length by_node.now)) groups.now }
     ensures { IfOk result (λ v. v.items ≡ map (slot_in by_node.now) groups.now) }
 {

@@ -7,16 +7,16 @@ ghost use Rattle.place_list.specs.Bounds.{IsBelow};
 ghost use Rattle.scope_rules.specs.Homes as rules;
 
 use place_list::PlaceEntry;
-use std::alloc::{AllocError, Global};
+use std::alloc::{AllocError, Allocator};
 use tree_nodes::Role;
 
 // Of each of so many slots, how many references have it. Err is want of memory.
-pub(crate) fn slot_weights(
-    alloc: Global,
+pub(crate) fn slot_weights<A: Allocator>(
+    alloc: A,
     places: &[PlaceEntry<'_>],
     slots: &[Option<u32>],
     count: usize,
-) -> Result<Vec<usize>, AllocError>
+) -> Result<Vec<usize, A>, AllocError>
     requires long { length slots.now ≡ length places.now }
     requires below { AllByRecursion (IsBelow count) slots.now }
     ensures many { IfOk result (λ v. length v.items ≡ count) }
@@ -30,7 +30,7 @@ pub(crate) fn slot_weights(
 }
 
 // Counts the place for its slot, if it refers.
-fn count_place(weights: &mut Vec<usize>, place: &PlaceEntry<'_>, slot: Option<u32>)
+fn count_place<A: Allocator>(weights: &mut Vec<usize, A>, place: &PlaceEntry<'_>, slot: Option<u32>)
     requires below { IsBelow (length weights.old.items) slot }
     requires few { IfSome slot (λ k. get_or weights.old.items k 0 + 1 < 2 ^ 64) }
     ensures { weights.new.items ≡ counted weights.old.items (refers_at place.now) slot }
@@ -41,7 +41,7 @@ fn count_place(weights: &mut Vec<usize>, place: &PlaceEntry<'_>, slot: Option<u3
 }
 
 #[tactic(auto, unfolding(crate::specs::Slots::counted))]
-fn count_slot(weights: &mut Vec<usize>, slot: Option<u32>)
+fn count_slot<A: Allocator>(weights: &mut Vec<usize, A>, slot: Option<u32>)
     requires below { IsBelow (length weights.old.items) slot }
     requires few { IfSome slot (λ k. get_or weights.old.items k 0 + 1 < 2 ^ 64) }
     ensures { weights.new.items ≡ counted weights.old.items true slot }

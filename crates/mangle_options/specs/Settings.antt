@@ -33,9 +33,9 @@ has s x = contains_by (λ k. slice_cmp nat_cmp x k.now) s
 abbrev pub HasNames : List (Bor Text) → BTreeSet (Bor Text) → Type 0
 HasNames ns s = (x : Text) → has s x ≡ is_among (map (λ n. n.now) ns) x
 
-abbrev pub is_reserved_by : ReservedNames → Text → Bool
+abbrev pub is_reserved_by : {A : Type 0} → ReservedNames A → Text → Bool
 is_reserved_by r x = same_name x name_arguments || has r.names x
 
 -- they answer as the definitions do under these options
-abbrev pub HasReserved : MangleOptions → ReservedNames → Type 0
+abbrev pub HasReserved : {A : Type 0} → MangleOptions → ReservedNames A → Type 0
 HasReserved o r = (renames_root : Bool) (x : Text) → is_reserved_by r x ≡ is_reserved (options_in o renames_root) x

@@ -5,7 +5,7 @@ ghost use Rattle.mangle_options.specs.Settings.{AreSameNames, reserved_in};
 
 use crate::keep_names::MangleOptionsKeepNames;
 use oxc_str::CompactStr;
-use std::alloc::{AllocError, Global};
+use std::alloc::{AllocError, Allocator, Global};
 use std::collections::HashSet;
 
 /// What a mangling is asked to do.
@@ -56,7 +56,7 @@ impl MangleOptions {
     }
 
     /// The reserved names, each once. Err is want of memory.
-    pub fn reserved_list(&self, alloc: Global) -> Result<Vec<&str>, AllocError>
+    pub fn reserved_list<A: Allocator>(&self, alloc: A) -> Result<Vec<&str, A>, AllocError>
         ensures { IfOk result (λ v. map (λ n. n.now) v.items ≡ reserved_in self.now) }
     {
         let mut names = Vec::new(alloc);

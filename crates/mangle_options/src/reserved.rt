@@ -5,19 +5,21 @@ ghost use Rattle.mangle_options.specs.Settings.{HasReserved, has, is_reserved_by
 ghost use Rattle.mangle_options.specs.declared.options.MangleOptions.{MangleOptions};
 
 use crate::options::MangleOptions;
-use std::alloc::{AllocError, Global};
+use std::alloc::{AllocError, Allocator, Global};
 use std::collections::BTreeSet;
 
 /// The reserved names of some options. A `HashSet<CompactStr>` isn't asked by a `&str`, so a computation that
 /// asks for many names makes these once.
 #[derive(Drop)]
-pub struct ReservedNames<'o> {
-    names: BTreeSet<&'o str>,
+pub struct ReservedNames<'o, A: Allocator = Global> {
+    names: BTreeSet<&'o str, A>,
 }
 
-impl<'o> ReservedNames<'o> {
+impl<'o, A: Allocator> ReservedNames<'o, A> {
     /// Those of these options. Err is want of memory.
-    pub fn new(alloc: Global, options: &'o MangleOptions) -> Result<Self, AllocError>
+    pub fn new(alloc: A, options: &'o MangleOptions) -> Result<Self, AllocError>
+    where
+        A: Copy,
         ensures { IfOk result (λ r. HasReserved options.now r) }
     {
         let listed = options.reserved_list(alloc)?;
@@ -35,7 +37,10 @@ impl<'o> ReservedNames<'o> {
 }
 
 // The set of these names. Err is want of memory.
-fn names_of<'o>(alloc: Global, listed: &[&'o str]) -> Result<BTreeSet<&'o str>, AllocError>
+fn names_of<'o, A: Allocator + Copy>(
+    alloc: A,
+    listed: &[&'o str],
+) -> Result<BTreeSet<&'o str, A>, AllocError>
     ensures { IfOk result (λ s. HasNames listed.now s) }
 {
     let mut names = BTreeSet::new(alloc);

@@ -79,7 +79,7 @@ root_told None t = refl
 root_told (Some b) t = refl
 
 -- so its new names are those that are asked for
-pub new_told : (o : MangleOptions) (t : Tree) (root : Bool) (l : PlaceList) (n : NewNames) → root ≡ unwrap_or o.top_level (not (nat_eq (word_of (part t.fields 1)) 0))
+pub new_told : {A : Type 0} (o : MangleOptions) (t : Tree) (root : Bool) (l : PlaceList) (n : NewNames A) → root ≡ unwrap_or o.top_level (not (nat_eq (word_of (part t.fields 1)) 0))
     → places_in l ≡ places (alone t) → scopes_in l ≡ scopes (alone t) → withs_in l ≡ withs (alone t)
     → ((x : Parts) → IsListOf l x → AreNewNames (options_in o root) x l n) → AreNewNames (options_for o t) (alone t) l n
 new_told o t root l n told p s w new =

@@ -88,7 +88,7 @@ fn names_by(
 {
     let private = PrivateTable::new(alloc, &tables.list)?;
     let numbers = PrivateNumbers::new(alloc, &private)?;
-    new_names(alloc, alloc, options, top_level, tables, &numbers)
+    new_names(alloc, options, top_level, tables, &numbers)
 }
 
 // Whether the bindings of the root get new names: as asked, else in all but scripts, which share their

@@ -75,7 +75,7 @@ module _ (o : Options) (t : Parts) (l : PlaceList) (is : IsListOf l t) (groups f
     pub free_are : (free : List Text) (readable : Bool) (n : ℕ) → o.readable ≡ readable → length guard ≤ length o.reserved + length l.places.items → AreFreeWhereTaken guard readable n free → free ≡ free_names o (members o t) n
     free_are free readable n r few first = first o (members o t) r (omega (arith, few, as_many_members)) refuses
 
-  module _ (s : Slots) (slots : AreSlots l s o t) where
+  module _ {A : Type 0} (s : Slots A) (slots : AreSlots l s o t) where
     abbrev many : ℕ
     many = number_of_slots (slots_of o t)
 
@@ -99,7 +99,7 @@ module _ (o : Options) (t : Parts) (l : PlaceList) (is : IsListOf l t) (groups f
         ∙ ap (λ (xs : List Text). slot_names xs s.weights.items) (f ∙ ap (free_names o (members o t)) weights_long)
         ∙ ap (slot_names (free_names o (members o t) many)) slots.weights
 
-    pub all_new : (n : NewNames) (given : List Text) (numbers : List (Option ℕ)) (limit : ℕ) → limit ≤ 2 ^ 31 → given ≡ names_of_slots o t → numbers ≡ map (place_number (places_in l)) (places_in l) → AreBelow limit numbers
+    pub all_new : (n : NewNames A) (given : List Text) (numbers : List (Option ℕ)) (limit : ℕ) → limit ≤ 2 ^ 31 → given ≡ names_of_slots o t → numbers ≡ map (place_number (places_in l)) (places_in l) → AreBelow limit numbers
         → map string_bytes n.names.items ≡ given ++ map short (count_from limit 0) → n.slots ≡ length s.weights.items → n.choices.items ≡ choices_of n.slots s.places.items numbers → n.busiest ≡ s.busiest → AreNewNames o t l n
     all_new n given numbers limit low g ns below named k cs b = record {
       chosen =

@@ -25,7 +25,7 @@ pub record IsList (l : PlaceList) : Type 0 where
   pub are : IsListOf l tree
 
 -- these are the new names of a tree's places: the choices give them and none to a plain name; the names are those of the slots and behind them the short names of private numbers below a limit, all identifier names; and as many are given to bindings as groups are live in the busiest scope
-pub record AreNewNames (o : Options) (t : Parts) (l : PlaceList) (n : NewNames) : Type 0 where
+pub record AreNewNames {A : Type 0} (o : Options) (t : Parts) (l : PlaceList) (n : NewNames A) : Type 0 where
   pub chosen : AreChosen o t n.choices.items (map string_bytes n.names.items)
   pub limit : ℕ
   pub low : limit ≤ 2 ^ 31

@@ -4,16 +4,16 @@ ghost use Rattle.std.specs.Prelude.{◌≡◌, ◌≤◌, ◌<◌, ◌+◌, ◌^
 ghost use Rattle.name_rules.specs.ChosenNames as spec;
 ghost use Rattle.name_rules.specs.ChosenNames.{AreBelow, choices_of};
 
-use std::alloc::{AllocError, Global};
+use std::alloc::{AllocError, Allocator};
 
 // Of each place the name of its slot, or, behind the `first` names of slots, that of its private number. Err is
 // want of memory.
-pub(crate) fn choices(
-    alloc: Global,
+pub(crate) fn choices<A: Allocator>(
+    alloc: A,
     slots: &[Option<u32>],
     numbers: &[Option<u32>],
     first: u32,
-) -> Result<Vec<Option<u32>>, AllocError>
+) -> Result<Vec<Option<u32>, A>, AllocError>
     requires long { length slots.now ≡ length numbers.now }
     requires below { AreBelow (2 ^ 31) numbers.now }
     requires first { first < 2 ^ 31 }

@@ -21,11 +21,11 @@ use std::alloc::{AllocError, Allocator, Global};
 
 /// The new names of a tree's places: of each place which name it gets, if it gets one, and the names.
 #[derive(Drop)]
-pub struct NewNames {
+pub struct NewNames<A: Allocator = Global> {
     /// Of each place the number of its new name, if it gets one.
-    pub choices: Vec<Option<u32>>,
+    pub choices: Vec<Option<u32>, A>,
     /// The names: those of the slots, and behind them those of private numbers.
-    pub names: Vec<String>,
+    pub names: Vec<String<A>, A>,
     /// How many slots there are, so how many names are given to bindings.
     pub slots: usize,
     /// A scope in which as many groups are in use as there are slots: the root where there are none.
@@ -33,15 +33,14 @@ pub struct NewNames {
 }
 
 /// The new names of a tree, whose places with the reserved names are at most 2^30. Bindings of the root may be
-/// renamed if `top_level`. The sets of scopes lie in `sets`. Err is want of memory, or of numbers.
+/// renamed if `top_level`. All that is made lies in `alloc`. Err is want of memory, or of numbers.
 pub fn new_names<A: Allocator + Copy>(
-    alloc: Global,
-    sets: A,
+    alloc: A,
     options: &MangleOptions,
     top_level: bool,
     tables: &ScopeTables<'_>,
     private: &PrivateNumbers<'_, '_, '_>,
-) -> Result<NewNames, AllocError>
+) -> Result<NewNames<A>, AllocError>
     requires tables { AreTables tables.now }
     requires list { IsList tables.now.list }
     requires numbered { IsNumbered private.now }
@@ -51,7 +50,7 @@ pub fn new_names<A: Allocator + Copy>(
 {
     let list = &tables.list;
     let groups = groups_of_places(alloc, options, top_level, tables)?;
-    let found = slots_of_groups(alloc, sets, list, groups.as_slice())?;
+    let found = slots_of_groups(alloc, list, groups.as_slice())?;
     let guard = taken_names(alloc, options, list, groups.as_slice())?;
     let slots = found.weights.len();
     let free = free_names(alloc, &guard, options.debug, slots)?;

@@ -11,14 +11,14 @@ ghost use Rattle.new_names.specs.Limits as spec;
 
 use free_names::base54;
 use private_numbers::PrivateNumbers;
-use std::alloc::{AllocError, Global};
+use std::alloc::{AllocError, Allocator};
 
 // Of each place the number of its new private name, if it gets one. Err is want of memory.
-pub(crate) fn numbers_of_places(
-    alloc: Global,
+pub(crate) fn numbers_of_places<A: Allocator>(
+    alloc: A,
     numbers: &PrivateNumbers<'_, '_, '_>,
     places: usize,
-) -> Result<Vec<Option<u32>>, AllocError>
+) -> Result<Vec<Option<u32>, A>, AllocError>
     requires numbered { IsNumbered numbers.now }
     requires places { places ≡ length (list_in (table_in numbers.now)).places.items }
     ensures { IfOk result (λ v. v.items ≡ map (place_number (places_in (list_in (table_in numbers.now)))) (places_in (list_in (table_in numbers.now)))) }
@@ -56,9 +56,9 @@ fn limit_with(limit: usize, number: Option<u32>) -> usize
 }
 
 // Appends the short names of the first numbers. Err is want of memory.
-pub(crate) fn push_short_names(
-    alloc: Global,
-    names: &mut Vec<String>,
+pub(crate) fn push_short_names<A: Allocator + Copy>(
+    alloc: A,
+    names: &mut Vec<String<A>, A>,
     count: u32,
 ) -> Result<(), AllocError>
     ensures { OnOk result (map string_bytes names.new.items ≡ map string_bytes names.old.items ++ map short (count_from count 0)) }

@@ -14,17 +14,17 @@ ghost use Rattle.tree_nodes.specs.Tree.{Text};
 use free_names::Guard;
 use mangle_options::MangleOptions;
 use place_list::{PlaceEntry, PlaceList};
-use std::alloc::{AllocError, Global};
+use std::alloc::{AllocError, Allocator};
 use tree_nodes::Role;
 
 // Those that are reserved, and those of variable places that keep theirs. `groups` has of each place the
 // leader of its group. Err is want of memory.
-pub(crate) fn taken_names(
-    alloc: Global,
+pub(crate) fn taken_names<A: Allocator + Copy>(
+    alloc: A,
     options: &MangleOptions,
     list: &PlaceList<'_>,
     groups: &[Option<u32>],
-) -> Result<Guard, AllocError>
+) -> Result<Guard<A>, AllocError>
     requires bounded { IsBounded (list_view list.now) }
     requires long { length groups.now ≡ length list.now.places.items }
     ensures names { IfOk result (λ g. (x : Text) → is_among g x
@@ -40,7 +40,7 @@ pub(crate) fn taken_names(
 }
 
 // Puts these names in. Err is want of memory.
-fn insert_all(guard: &mut Guard, names: &[&str]) -> Result<(), AllocError>
+fn insert_all<A: Allocator + Copy>(guard: &mut Guard<A>, names: &[&str]) -> Result<(), AllocError>
     ensures names { OnOk result (HasAll guard.old (map (λ n. n.now) names.now) guard.new) }
     ensures few { OnOk result (length guard.new ≤ length guard.old + length names.now) }
 {
@@ -51,11 +51,11 @@ fn insert_all(guard: &mut Guard, names: &[&str]) -> Result<(), AllocError>
 }
 
 // The names of variable places that keep theirs. Err is want of memory.
-fn staying_names<'t>(
-    alloc: Global,
+fn staying_names<'t, A: Allocator>(
+    alloc: A,
     list: &PlaceList<'t>,
     groups: &[Option<u32>],
-) -> Result<Vec<&'t str>, AllocError>
+) -> Result<Vec<&'t str, A>, AllocError>
     requires bounded { IsBounded (list_view list.now) }
     requires long { length groups.now ≡ length list.now.places.items }
     ensures names { IfOk result (λ v. map (λ n. n.now) v.items ≡ staying_names (places_in list.now) groups.now) }

@@ -19,7 +19,7 @@ fn names_of(alloc: Global, root: &Node, top_level: bool) -> Result<NewNames, All
     let table = PrivateTable::new(alloc, &tables.list)?;
     let private = PrivateNumbers::new(alloc, &table)?;
     let options = MangleOptions::new(alloc);
-    new_names(alloc, alloc, &options, top_level, &tables, &private)
+    new_names(alloc, &options, top_level, &tables, &private)
 }
 
 // Whether these are the choices, the names and the number of slots, and the root is busiest.

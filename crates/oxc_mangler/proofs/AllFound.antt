@@ -26,5 +26,5 @@ classes_of_tree t l m same many are =
     subst (λ (n : ℕ). AreClassNames (places t) n m) many (subst (λ (ps : List Place). AreClassNames ps (length l.class_bodies.items) m) same are)
 
 -- the new names of symbols under options in another form
-pub asked_alike : (o p : Options) (t : Parts) (n : SymbolNames) → o ≡ p → AreSymbolNames o t n → AreSymbolNames p t n
+pub asked_alike : {A : Type 0} (o p : Options) (t : Parts) (n : SymbolNames A) → o ≡ p → AreSymbolNames o t n → AreSymbolNames p t n
 asked_alike o p t n same are = subst (λ (q : Options). AreSymbolNames q t n) same are

@@ -4,7 +4,7 @@ use Rattle.std.proofs.Common.{refl, ap, ◌∙◌}
 use Rattle.mangle_options.specs.Settings.{options_in, reserved_in}
 use Rattle.mangle_options.specs.declared.options.MangleOptions.{MangleOptions}
 use Rattle.name_rules.specs.Options.{Options, renames_root}
-use Rattle.oxc_mangler.specs.Asked.{asked, asked_with, reserved_by}
+use Rattle.oxc_mangler.specs.Asked.{asked, asked_with}
 use Rattle.tree_nodes.specs.Tree.{Parts, Text}
 
 abbrev told : Bool → Bool → Bool → List Text → Bool → Options
@@ -29,8 +29,3 @@ given_asked o t = refl
 pub options_reserved : (o : MangleOptions) (root : Bool) → (options_in o root).reserved ≡ reserved_in o
 unfolding options_in
 options_reserved o root = refl
-
-pub asked_reserved : (m : Option MangleOptions) (t : Parts) → (asked m t).reserved ≡ reserved_by m
-unfolding asked
-asked_reserved None t = refl
-asked_reserved (Some o) t = options_reserved o (renames_root o.top_level t)

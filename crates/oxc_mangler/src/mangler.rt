@@ -24,7 +24,7 @@ use bumpalo::Bump;
 use mangle_options::MangleOptions;
 use place_list::list_places;
 use scope_tables::ScopeTables;
-use std::alloc::{AllocError, Global};
+use std::alloc::{AllocError, Allocator, Global};
 use symbol_names::set_names;
 use tree_core::Program;
 use tree_nodes::Node;
@@ -48,7 +48,8 @@ impl<'m> Mangler<'m> {
         }
     }
 
-    /// One that keeps the sets of scopes that it works with in an arena. What it hands out lies elsewhere.
+    /// One that keeps in an arena the sets of scopes, the slots and the lists of names that it works with. What it
+    /// hands out lies elsewhere.
     pub fn new_with_temp_allocator(arena: &'m Bump) -> Self
         ensures { options_of result ≡ None }
     {
@@ -115,23 +116,33 @@ impl<'m> Mangler<'m> {
         ensures refused { OnErr result (semantic.new ≡ semantic.old) }
     {
         let options = options_or_usual(alloc, self.options);
-        let top_level = renames_first(options.top_level, semantic.nodes());
-        let tables = semantic.scoping().tables();
-        let found = find_names(alloc, self.arena, &options, top_level, tables)?;
-        set::set_names(semantic, found.symbols.names.as_slice());
-        Ok(NameResult {
-            class_private_mappings: found.private,
-            busiest: found.symbols.busiest,
-            names: found.symbols.count,
-        })
+        name_symbols(alloc, self.arena, &options, semantic)
     }
 }
 
-// A tree's symbols under their new names, with its new private names: None where its scopes have a fault. Err is
-// want of memory, or of numbers.
+// A tree's symbols under their new names, with its new private names: None where its scopes have a fault. What is
+// only needed meanwhile lies in the arena, if there is one. Err is want of memory, or of numbers.
 fn mangle<'t>(
     alloc: Global,
     arena: Option<&Bump>,
+    options: &MangleOptions,
+    root: &'t Node,
+) -> Result<Option<ManglerReturn<'t>>, AllocError>
+    requires { node_count root.now + length (reserved_in options.now) < 2 ^ 30 }
+    ensures mangled { IfOk result (λ found. IfSome found (λ r. IsReturn (asked_with options.now (alone root.now)) (alone root.now) r)) }
+    ensures laws { IfOk result (λ found. IfSome found (λ r. IsProgram root.now → MeetNameLaws (asked_with options.now (alone root.now)) (alone root.now) r.names)) }
+    ensures faulty { IfOk result (λ found. is_some found ≡ false → IsTrue (has_fault same_name (places (alone root.now)))) }
+{
+    match arena {
+        Some(arena) => mangle_in(alloc, arena, options, root),
+        None => mangle_in(alloc, alloc, options, root),
+    }
+}
+
+// The same, with what is only needed meanwhile in `temp`.
+fn mangle_in<'t, A: Allocator + Copy>(
+    alloc: Global,
+    temp: A,
     options: &MangleOptions,
     root: &'t Node,
 ) -> Result<Option<ManglerReturn<'t>>, AllocError>
@@ -146,7 +157,7 @@ fn mangle<'t>(
         return Ok(None);
     }
     let top_level = renames_root(options.top_level, root);
-    let found = find_names(alloc, arena, options, top_level, &tables)?;
+    let found = find_names(alloc, temp, options, top_level, &tables)?;
     let mut scoping = Scoping::build(alloc, tables)?;
     set_names(&mut scoping, found.symbols.names.as_slice());
     Ok(Some(ManglerReturn {
@@ -155,4 +166,50 @@ fn mangle<'t>(
         busiest: found.symbols.busiest,
         names: found.symbols.count,
     }))
+}
+
+// Gives the symbols of an analysis their new names, and answers the new private names. What is only needed meanwhile
+// lies in the arena, if there is one. Err is want of memory, or of numbers, and the analysis is as it was.
+fn name_symbols<'t>(
+    alloc: Global,
+    arena: Option<&Bump>,
+    options: &MangleOptions,
+    semantic: &mut Semantic<'t>,
+) -> Result<NameResult<'t>, AllocError>
+    requires semantic { IsSemantic semantic.old }
+    requires few { length (nodes_in (nodes_of semantic.old)) + length (reserved_in options.now) < 2 ^ 30 }
+    ensures same { (t : Parts) → IsSemanticOf t semantic.old → IsSemanticOf t semantic.new }
+    ensures mangled { IfOk result (λ r. (t : Tree) → IsSemanticOf (alone t) semantic.old → IsNameResult (asked_with options.now (alone t)) (alone t) (scoping_of semantic.new) r) }
+    ensures laws { IfOk result (λ r. (t : Tree) → IsProgram t → IsSemanticOf (alone t) semantic.old → MeetNameLaws (asked_with options.now (alone t)) (alone t) r.names) }
+    ensures refused { OnErr result (semantic.new ≡ semantic.old) }
+{
+    match arena {
+        Some(arena) => name_symbols_in(alloc, arena, options, semantic),
+        None => name_symbols_in(alloc, alloc, options, semantic),
+    }
+}
+
+// The same, with what is only needed meanwhile in `temp`.
+fn name_symbols_in<'t, A: Allocator + Copy>(
+    alloc: Global,
+    temp: A,
+    options: &MangleOptions,
+    semantic: &mut Semantic<'t>,
+) -> Result<NameResult<'t>, AllocError>
+    requires semantic { IsSemantic semantic.old }
+    requires few { length (nodes_in (nodes_of semantic.old)) + length (reserved_in options.now) < 2 ^ 30 }
+    ensures same { (t : Parts) → IsSemanticOf t semantic.old → IsSemanticOf t semantic.new }
+    ensures mangled { IfOk result (λ r. (t : Tree) → IsSemanticOf (alone t) semantic.old → IsNameResult (asked_with options.now (alone t)) (alone t) (scoping_of semantic.new) r) }
+    ensures laws { IfOk result (λ r. (t : Tree) → IsProgram t → IsSemanticOf (alone t) semantic.old → MeetNameLaws (asked_with options.now (alone t)) (alone t) r.names) }
+    ensures refused { OnErr result (semantic.new ≡ semantic.old) }
+{
+    let top_level = renames_first(options.top_level, semantic.nodes());
+    let tables = semantic.scoping().tables();
+    let found = find_names(alloc, temp, options, top_level, tables)?;
+    set::set_names(semantic, found.symbols.names.as_slice());
+    Ok(NameResult {
+        class_private_mappings: found.private,
+        busiest: found.symbols.busiest,
+        names: found.symbols.count,
+    })
 }

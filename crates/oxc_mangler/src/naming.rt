@@ -10,7 +10,6 @@ ghost use Rattle.symbol_names.specs.Found.{AreSymbolNames, IsSmallList};
 ghost use Rattle.tree_nodes.specs.Tree.{Parts};
 
 use crate::class_names::class_names;
-use bumpalo::Bump;
 use class_tables::PrivateTable;
 use mangle_options::MangleOptions;
 use private_numbers::PrivateNumbers;
@@ -21,39 +20,20 @@ use tree_semantic::PrivateNames;
 
 // The new names of a tree: of its symbols, and of its private names by class.
 #[derive(Drop)]
-pub(crate) struct Naming<'t> {
-    pub symbols: SymbolNames,
+pub(crate) struct Naming<'t, A: Allocator> {
+    pub symbols: SymbolNames<A>,
     pub private: PrivateNames<'t>,
 }
 
-// The new names of a tree, found with the sets of scopes in the arena, if there is one. Err is want of memory, or
-// of numbers.
-pub(crate) fn find_names<'t>(
+// The new names of a tree. The private ones are made in `alloc`, those of symbols in `temp`, with all that they are
+// found by. Err is want of memory, or of numbers.
+pub(crate) fn find_names<'t, A: Allocator + Copy>(
     alloc: Global,
-    arena: Option<&Bump>,
+    temp: A,
     options: &MangleOptions,
     top_level: bool,
     tables: &ScopeTables<'t>,
-) -> Result<Naming<'t>, AllocError>
-    requires tables { AreTables tables.now }
-    requires list { IsSmallList (length (reserved_in options.now)) tables.now.list }
-    ensures symbols { IfOk result (λ n. (t : Parts) → IsListOf tables.now.list t → AreSymbolNames (options_in options.now top_level) t n.symbols) }
-    ensures private { IfOk result (λ n. AreClassNames (places_in tables.now.list) (length tables.now.list.class_bodies.items) n.private) }
-{
-    match arena {
-        Some(arena) => find_names_in(alloc, arena, options, top_level, tables),
-        None => find_names_in(alloc, alloc, options, top_level, tables),
-    }
-}
-
-// The same, with the sets of scopes in `sets`.
-fn find_names_in<'t, A: Allocator + Copy>(
-    alloc: Global,
-    sets: A,
-    options: &MangleOptions,
-    top_level: bool,
-    tables: &ScopeTables<'t>,
-) -> Result<Naming<'t>, AllocError>
+) -> Result<Naming<'t, A>, AllocError>
     requires tables { AreTables tables.now }
     requires list { IsSmallList (length (reserved_in options.now)) tables.now.list }
     ensures symbols { IfOk result (λ n. (t : Parts) → IsListOf tables.now.list t → AreSymbolNames (options_in options.now top_level) t n.symbols) }
@@ -61,7 +41,7 @@ fn find_names_in<'t, A: Allocator + Copy>(
 {
     let table = PrivateTable::new(alloc, &tables.list)?;
     let numbers = PrivateNumbers::new(alloc, &table)?;
-    let symbols = symbol_names(alloc, sets, options, top_level, tables, &numbers)?;
+    let symbols = symbol_names(temp, options, top_level, tables, &numbers)?;
     let private = class_names(alloc, &table, &numbers)?;
     Ok(Naming { symbols, private })
 }

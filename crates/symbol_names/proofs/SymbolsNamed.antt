@@ -122,7 +122,7 @@ width_at_most : (o : Options) (t : Parts) (n : ℕ) (s : Scope) → slice_get (s
 unfolding greatest_width
 width_at_most o t n s e = greatest_at (width (members o t) (groups_of o t)) (scopes t) s (scope_among (scopes t) n s e)
 
-module _ (o : Options) (t : Parts) (l : PlaceList) (is : IsListOf l t) (new : NewNames) (are : AreNewNames o t l new) where
+module _ (o : Options) (t : Parts) (l : PlaceList) (is : IsListOf l t) {A : Type 0} (new : NewNames A) (are : AreNewNames o t l new) where
   counted : (count busiest : ℕ) → count ≡ new.slots → busiest < length l.scopes.items → length (scopes_in l) ≡ length l.scopes.items → (0 < new.slots → busiest ≡ new.busiest) → (new.slots ≡ 0 → busiest ≡ 0) → IsCounted o t count busiest
   counted count busiest same within long used root = record {
     fewest = same ∙ are.slots;
@@ -168,7 +168,7 @@ module _ (o : Options) (t : Parts) (l : PlaceList) (is : IsListOf l t) (new : Ne
         let n = given_at (map string_bytes new.names.items) new.choices.items i.0 x (ap (λ (given : List Text). name_at given new.choices.items i.0) (sym kept) ∙ i.1) in
         identifier_at new.names.items are.identifiers n.0 x n.1
 
-    pub symbols_named : (n : SymbolNames) → n.names.items ≡ beside (symbol_flags (places_in l)) (name_at inline new.choices.items) 0 → n.count ≡ new.slots → number_of n.busiest < length l.scopes.items → length (scopes_in l) ≡ length l.scopes.items
+    pub symbols_named : {B : Type 0} (n : SymbolNames B) → n.names.items ≡ beside (symbol_flags (places_in l)) (name_at inline new.choices.items) 0 → n.count ≡ new.slots → number_of n.busiest < length l.scopes.items → length (scopes_in l) ≡ length l.scopes.items
         → (0 < new.slots → number_of n.busiest ≡ new.busiest) → (new.slots ≡ 0 → number_of n.busiest ≡ 0) → AreSymbolNames o t n
     unfolding symbols
     symbols_named n names count within long used root = record {

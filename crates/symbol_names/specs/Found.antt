@@ -19,7 +19,7 @@ pub record IsSmallList (reserved : ℕ) (l : PlaceList) : Type 0 where
   pub few : nodes_in tree + reserved < 2 ^ 30
 
 -- these are the new names of a tree's symbols
-pub record AreSymbolNames (o : Options) (t : Parts) (n : SymbolNames) : Type 0 where
+pub record AreSymbolNames {A : Type 0} (o : Options) (t : Parts) (n : SymbolNames A) : Type 0 where
   pub many : length n.names.items ≡ length (symbols same_name (places t))
   pub named : AreNamed o t (λ k. get_or n.names.items k None)
   pub counted : IsCounted o t n.count (number_of n.busiest)

@@ -12,17 +12,17 @@ ghost use Rattle.symbol_names.specs.Beside.{beside, symbol_flags};
 use oxc_data_structures::inline_string::InlineString;
 use place_list::PlaceEntry;
 use scope_tables::ScopeTables;
-use std::alloc::{AllocError, Global};
+use std::alloc::{AllocError, Allocator};
 use tree_nodes::Role;
 
 // Of each symbol the name that is chosen for it, if one is. Of each place `choices` has the number of its name.
 // Err is want of memory.
-pub(crate) fn names_by_symbol(
-    alloc: Global,
+pub(crate) fn names_by_symbol<A: Allocator>(
+    alloc: A,
     tables: &ScopeTables<'_>,
     choices: &[Option<u32>],
     names: &[InlineString<15, u8>],
-) -> Result<Vec<Option<InlineString<15, u8>>>, AllocError>
+) -> Result<Vec<Option<InlineString<15, u8>>, A>, AllocError>
     requires { AreTables tables.now }
     ensures { IfOk result (λ v. v.items ≡ beside (symbol_flags (places_in tables.now.list)) (spec.name_at names.now choices.now) 0) }
 {
@@ -34,8 +34,8 @@ pub(crate) fn names_by_symbol(
 }
 
 // Pushes the name of the i-th place, if that is a symbol.
-fn push_name(
-    found: &mut Vec<Option<InlineString<15, u8>>>,
+fn push_name<A: Allocator>(
+    found: &mut Vec<Option<InlineString<15, u8>>, A>,
     tables: &ScopeTables<'_>,
     i: usize,
     name: Option<InlineString<15, u8>>,

@@ -17,14 +17,14 @@ use new_names::new_names;
 use oxc_data_structures::inline_string::InlineString;
 use private_numbers::PrivateNumbers;
 use scope_tables::ScopeTables;
-use std::alloc::{AllocError, Allocator, Global};
+use std::alloc::{AllocError, Allocator};
 use syntax_sem::scope::ScopeId;
 
 /// The new names of a tree's symbols.
 #[derive(Drop)]
-pub struct SymbolNames {
+pub struct SymbolNames<A: Allocator> {
     /// Of each symbol its new name, if it gets one.
-    pub names: Vec<Option<InlineString<15, u8>>>,
+    pub names: Vec<Option<InlineString<15, u8>>, A>,
     /// How many different names are given to bindings.
     pub count: u32,
     /// A scope in which so many groups are in use: the root where there are none.
@@ -32,22 +32,21 @@ pub struct SymbolNames {
 }
 
 /// The new names of a tree's symbols, where its nodes and the reserved names are fewer than 2^30. Bindings of the
-/// root may be renamed if `top_level`. The sets of scopes lie in `sets`. Err is want of memory, or of numbers.
+/// root may be renamed if `top_level`. All that is made lies in `alloc`. Err is want of memory, or of numbers.
 pub fn symbol_names<A: Allocator + Copy>(
-    alloc: Global,
-    sets: A,
+    alloc: A,
     options: &MangleOptions,
     top_level: bool,
     tables: &ScopeTables<'_>,
     private: &PrivateNumbers<'_, '_, '_>,
-) -> Result<SymbolNames, AllocError>
+) -> Result<SymbolNames<A>, AllocError>
     requires tables { AreTables tables.now }
     requires list { IsSmallList (length (reserved_in options.now)) tables.now.list }
     requires numbered { IsNumbered private.now }
     requires same { list_in (table_in private.now) ≡ tables.now.list }
     ensures { IfOk result (λ n. (t : Parts) → IsListOf tables.now.list t → AreSymbolNames (options_in options.now top_level) t n) }
 {
-    let new = new_names(alloc, sets, options, top_level, tables, private)?;
+    let new = new_names(alloc, options, top_level, tables, private)?;
     let inline = inline_names(alloc, new.names.as_slice())?;
     let names = names_by_symbol(alloc, tables, new.choices.as_slice(), inline.as_slice())?;
     let busiest = busiest_scope(new.busiest, new.slots, tables.list.scopes.len())?;

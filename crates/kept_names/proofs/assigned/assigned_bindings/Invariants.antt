@@ -8,4 +8,4 @@ use Rattle.place_list.specs.declared.tables.PlaceList.{PlaceList}
 use Rattle.kept_names.proofs.assigned.assigned_bindings.Given as goal
 
 abbrev pub invariant-loop-place : goal.invariant-loop-place
-invariant-loop-place l = (p : PlaceList) (n : ℕ) → has l.assigned n ≡ list_any (λ b. assigns (keeping l.keep) n (bound_of p b)) (take l.place-index l.places)
+invariant-loop-place g l = (p : PlaceList) (n : ℕ) → has l.assigned n ≡ list_any (λ b. assigns (keeping l.keep) n (bound_of p b)) (take l.place-index l.places)

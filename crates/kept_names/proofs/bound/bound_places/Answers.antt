@@ -12,7 +12,7 @@ use Rattle.tree_nodes.specs.Tree.{Text}
 use Rattle.kept_names.proofs.bound.bound_places.Goals as goal
 
 pub loop-i-init : goal.loop-i-init
-loop-i-init c =
+loop-i-init g c =
     let l = c.args.tables.now.list in
     record {
       are = ap (bounds_of l) c.new-places.ensures.items;
@@ -21,7 +21,7 @@ loop-i-init c =
     }
 
 pub loop-i-preserved : goal.loop-i-preserved
-loop-i-preserved c =
+loop-i-preserved g c =
     let l = c.args.tables.now.list in
     let x = c.bound_place.result in
     let inv = c.loop-i.invariant in
@@ -35,7 +35,7 @@ loop-i-preserved c =
     }
 
 pub returns : goal.returns
-returns c =
+returns g c =
     let l = c.args.tables.now.list in
     let inv = c.loop-i.invariant in
     let over : length (bound same_name (places_in l)) ≤ c.loop-i.i = omega (arith, many_bound l) in

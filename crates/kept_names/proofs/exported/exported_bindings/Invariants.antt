@@ -7,4 +7,4 @@ use Rattle.place_list.specs.declared.tables.PlaceList.{PlaceList}
 use Rattle.kept_names.proofs.exported.exported_bindings.Given as goal
 
 abbrev pub invariant-loop-place : goal.invariant-loop-place
-invariant-loop-place l = (p : PlaceList) (n : ℕ) → has l.exported n ≡ list_any (λ b. exports n (bound_of p b)) (take l.place-index l.places)
+invariant-loop-place g l = (p : PlaceList) (n : ℕ) → has l.exported n ≡ list_any (λ b. exports n (bound_of p b)) (take l.place-index l.places)

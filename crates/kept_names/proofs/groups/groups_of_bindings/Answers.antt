@@ -13,10 +13,10 @@ use Rattle.tree_nodes.specs.Tree.{Text}
 use Rattle.kept_names.proofs.groups.groups_of_bindings.Goals as goal
 
 pub loop-place-init : goal.loop-place-init
-loop-place-init c = λ p ks has shadowed n. ap (lookup (is_at (nat_cmp n))) c.new-groups.ensures.empty
+loop-place-init g c = λ p ks has shadowed n. ap (lookup (is_at (nat_cmp n))) c.new-groups.ensures.empty
 
 pub loop-place-preserved : goal.loop-place-preserved
-loop-place-preserved c = λ p ks has shadowed n.
+loop-place-preserved g c = λ p ks has shadowed n.
     let all = c.args.places.now in
     let i = c.loop-place.place-index in
     let h = c.loop-place-test.true in
@@ -24,6 +24,6 @@ loop-place-preserved c = λ p ks has shadowed n.
     _ _ refl (λ _. refl) (c.in_ok-put_group.ensures p ks has (shadowed _ (contains_at all i _ h)) n)
 
 pub returns : goal.returns
-returns c = λ p ks has shadowed n.
+returns g c = λ p ks has shadowed n.
     first_of_all (λ (b : Bound Text). is_binding b && nat_eq (node b.place) n) (λ (b : Bound Text). group_of ks n (shadower same_name (places_in p) b.place)) (bound_of p) c.args.places.now c.loop-place.place-index c.loop-place-test.false _
     (c.loop-place.invariant p ks has shadowed n)

@@ -11,5 +11,5 @@ use Rattle.scope_rules.specs.Bindings.{is_binding, node, same_name, shadower}
 use Rattle.kept_names.proofs.groups.groups_of_bindings.Given as goal
 
 abbrev pub invariant-loop-place : goal.invariant-loop-place
-invariant-loop-place l = (p : PlaceList) (ks : List ℕ) → HasNumbers ks l.kept → ((b : BoundPlace) → Contains l.places b → IsShadowed p b) → (n : ℕ)
+invariant-loop-place g l = (p : PlaceList) (ks : List ℕ) → HasNumbers ks l.kept → ((b : BoundPlace) → Contains l.places b → IsShadowed p b) → (n : ℕ)
     → at_node l.groups n ≡ option_map (λ b. group_of ks n (shadower same_name (places_in p) b.place)) (find (λ b. is_binding b && nat_eq (node b.place) n) (map (bound_of p) (take l.place-index l.places)))

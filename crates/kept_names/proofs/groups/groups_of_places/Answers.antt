@@ -17,10 +17,10 @@ use Rattle.tree_nodes.specs.Tree.{Text}
 use Rattle.kept_names.proofs.groups.groups_of_places.Goals as goal
 
 pub kept_bindings-requires : goal.kept_bindings-requires
-kept_bindings-requires c = subst (λ (bs : List BoundPlace). AllStand c.args.tables.now.list bs) (sym c.as_slice-2.ensures.value) c.in_ok-places.ensures.stand
+kept_bindings-requires g c = subst (λ (bs : List BoundPlace). AllStand c.args.tables.now.list bs) (sym c.as_slice-2.ensures.value) c.in_ok-places.ensures.stand
 
 pub returns : goal.returns
-returns c =
+returns g c =
     let l = c.args.tables.now.list in
     let o : Options = options_in c.args.options.now c.args.top_level in
     let bs : List (Bound Text) = bound same_name (places_in l) in

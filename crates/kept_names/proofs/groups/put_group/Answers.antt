@@ -12,7 +12,7 @@ use Rattle.kept_names.proofs.groups.put_group.Goals as goal
 
 pub returns-in_ok-put_first : goal.returns-in_ok-put_first
 unfolding bound_of place_of site_of node
-returns-in_ok-put_first c = λ l ks has shadowed n.
+returns-in_ok-put_first g c = λ l ks has shadowed n.
     let b = c.args.place.now in
     let old = at_node c.args.groups.now n in
     let group : Option ℕ = group_of ks n (shadower same_name (places_in l) (place_in l b.place)) in
@@ -23,7 +23,7 @@ returns-in_ok-put_first c = λ l ks has shadowed n.
 
 pub returns-else-is_binding : goal.returns-else-is_binding
 unfolding bound_of place_of site_of node
-returns-else-is_binding c = λ l ks has shadowed n.
+returns-else-is_binding g c = λ l ks has shadowed n.
     let b = c.args.place.now in
     let old = at_node c.args.groups.now n in
     let group : Option ℕ = group_of ks n (shadower same_name (places_in l) (place_in l b.place)) in

@@ -10,14 +10,14 @@ use Rattle.kept_names.proofs.kept.kept_binding.Goals as goal
 
 pub returns-then-not-is_binding : goal.returns-then-not-is_binding
 unfolding keeps_alone is_node
-returns-then-not-is_binding c = λ o bs n are.
+returns-then-not-is_binding g c = λ o bs n are.
     let l = c.args.list.now in
     let b = bound_of l c.args.place.now in
     sym (ap (λ (t : Bool). t && is_kept_alone o (withs_in l) (places_in l) bs b && nat_eq (node b.place) n) (sym (c.is_binding.ensures l) ∙ c.if-not-is_binding.true))
 
 pub returns-then-is_kept_alone : goal.returns-then-is_kept_alone
 unfolding keeps_alone is_node bound_of place_of site_of node
-returns-then-is_kept_alone c = λ o bs n are.
+returns-then-is_kept_alone g c = λ o bs n are.
     let l = c.args.list.now in
     let b = bound_of l c.args.place.now in
     sym (ap (λ (t : Bool). t && is_kept_alone o (withs_in l) (places_in l) bs b && nat_eq (node b.place) n) (sym (c.is_binding.ensures l) ∙ c.if-not-is_binding.false)
@@ -25,7 +25,7 @@ returns-then-is_kept_alone c = λ o bs n are.
 
 pub returns-else-is_kept_alone : goal.returns-else-is_kept_alone
 unfolding keeps_alone is_node
-returns-else-is_kept_alone c = λ o bs n are.
+returns-else-is_kept_alone g c = λ o bs n are.
     let l = c.args.list.now in
     let b = bound_of l c.args.place.now in
     sym (ap (λ (t : Bool). t && is_kept_alone o (withs_in l) (places_in l) bs b && nat_eq (node b.place) n) (sym (c.is_binding.ensures l) ∙ c.if-not-is_binding.false)

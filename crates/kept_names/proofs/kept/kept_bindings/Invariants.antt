@@ -9,5 +9,5 @@ use Rattle.tree_nodes.specs.Tree.{Text}
 use Rattle.kept_names.proofs.kept.kept_bindings.Given as goal
 
 abbrev pub invariant-loop-place : goal.invariant-loop-place
-invariant-loop-place l = (o : Options) (bs : List (Bound Text)) → AreCauses o l.list bs l.causes → (n : ℕ)
+invariant-loop-place g l = (o : Options) (bs : List (Bound Text)) → AreCauses o l.list bs l.causes → (n : ℕ)
     → has l.kept n ≡ list_any (λ b. keeps_alone o l.list bs n (bound_of l.list b)) (take l.place-index l.places)

@@ -17,11 +17,11 @@ use Rattle.kept_names.proofs.values.first_values.Goals as goal
 use Rattle.kept_names.proofs.values.first_values.Goals.{in-Some+in_ok-put_first, in_default}
 
 pub loop-place-init : goal.loop-place-init
-loop-place-init c = λ p d n. ap (lookup (is_at (λ (k : InDeclarator). ordering_then (nat_cmp d k.declarator) (nat_cmp n k.binding)))) c.new-values.ensures.empty
+loop-place-init g c = λ p d n. ap (lookup (is_at (λ (k : InDeclarator). ordering_then (nat_cmp d k.declarator) (nat_cmp n k.binding)))) c.new-values.ensures.empty
 
 pub loop-place-preserved : goal.loop-place-preserved
 unfolding bound_of place_of site_of setting_of is_at_key
-loop-place-preserved c =
+loop-place-preserved g c =
     let l = c.loop-place in
     let all = c.args.places.now in
     let h = c.loop-place-test.true in
@@ -35,5 +35,5 @@ loop-place-preserved c =
     ]
 
 pub returns : goal.returns
-returns c = λ p d n.
+returns g c = λ p d n.
     first_of_all (gets_value_at d n) (λ (q : Bound Text). value_kept (keeping c.args.keep) q.place.site.setting.value) (bound_of p) c.args.places.now c.loop-place.place-index c.loop-place-test.false _ (c.loop-place.invariant p d n)

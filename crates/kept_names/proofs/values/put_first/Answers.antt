@@ -8,7 +8,7 @@ use Rattle.kept_names.proofs.values.put_first.Goals as goal
 
 pub returns-in_ok-insert : goal.returns-in_ok-insert
 unfolding is_at_key
-returns-in_ok-insert c = λ d n.
+returns-in_ok-insert g c = λ d n.
     let m = c.args.values.now in
     let k = c.args.key in
     c.in_ok-insert.ensures.updates.0 (record { declarator = d; binding = n })
@@ -17,7 +17,7 @@ returns-in_ok-insert c = λ d n.
 
 pub returns-else-not-contains_key : goal.returns-else-not-contains_key
 unfolding is_at_key
-returns-else-not-contains_key c = λ d n.
+returns-else-not-contains_key g c = λ d n.
     let m = c.args.values.now in
     let k = c.args.key in
     put_present _ (at_declarator m d n) c.args.value (λ e. ap is_some (key_is (at_declarator m) k.declarator k.binding d n e) ∙ sym c.contains_key.ensures ∙ c.if-not-contains_key.false)

@@ -3,4 +3,4 @@ use Rattle.live_slots.specs.Leaders.{homes_led}
 use Rattle.live_slots.proofs.keys.leader_homes.Given as goal
 
 abbrev pub invariant-loop-i : goal.invariant-loop-i
-invariant-loop-i l = l.homes.items ≡ homes_led (take l.i l.places) (take l.i l.groups)
+invariant-loop-i g l = l.homes.items ≡ homes_led (take l.i l.places) (take l.i l.groups)

@@ -15,10 +15,10 @@ use Rattle.mangle_options.proofs.reserved.names_of.Goals as goal
 
 pub loop-name-init : goal.loop-name-init
 unfolding is_among
-loop-name-init c = λ x. ap (list_any (is_at (λ (k : Bor Text). slice_cmp nat_cmp x k.now))) c.new-names.ensures.empty
+loop-name-init g c = λ x. ap (list_any (is_at (λ (k : Bor Text). slice_cmp nat_cmp x k.now))) c.new-names.ensures.empty
 
 pub loop-name-preserved : goal.loop-name-preserved
-loop-name-preserved c = λ x.
+loop-name-preserved g c = λ x.
     let ns = c.args.listed.now in
     let i = c.loop-name.name-index in
     name_more (map (λ n. n.now) (take i ns)) _ x _ _ (c.loop-name.invariant x)
@@ -26,4 +26,4 @@ loop-name-preserved c = λ x.
     ∙ sym (ap (λ (ms : List Text). is_among ms x) (ap (map (λ (n : Bor Text). n.now)) (take_more ns i _ c.loop-name-test.true) ∙ map-append (λ (n : Bor Text). n.now) (take i ns) (_ ∷ [])))
 
 pub returns : goal.returns
-returns c = λ x. c.loop-name.invariant x ∙ ap (λ (ns : List (Bor Text)). is_among (map (λ n. n.now) ns) x) (take_all c.loop-name.name-index c.args.listed.now c.loop-name-test.false)
+returns g c = λ x. c.loop-name.invariant x ∙ ap (λ (ns : List (Bor Text)). is_among (map (λ n. n.now) ns) x) (take_all c.loop-name.name-index c.args.listed.now c.loop-name-test.false)

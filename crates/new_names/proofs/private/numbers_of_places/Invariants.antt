@@ -6,4 +6,4 @@ use Rattle.private_numbers.specs.AllNumbers.{table_in}
 use Rattle.new_names.proofs.private.numbers_of_places.Given as goal
 
 abbrev pub invariant-loop-i : goal.invariant-loop-i
-invariant-loop-i l = l.found.items ≡ map (place_number (places_in (list_in (table_in l.numbers)))) (take l.i (places_in (list_in (table_in l.numbers))))
+invariant-loop-i g l = l.found.items ≡ map (place_number (places_in (list_in (table_in l.numbers)))) (take l.i (places_in (list_in (table_in l.numbers))))

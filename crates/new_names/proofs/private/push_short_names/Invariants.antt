@@ -4,4 +4,4 @@ use Rattle.name_rules.specs.ShortNames.{short}
 use Rattle.new_names.proofs.private.push_short_names.Given as goal
 
 abbrev pub invariant-loop-number : goal.invariant-loop-number
-invariant-loop-number l = map string_bytes l.names.items ≡ map string_bytes l.fn.names.items ++ map short (count_from l.number 0)
+invariant-loop-number g l = map string_bytes l.names.items ≡ map string_bytes l.fn.names.items ++ map short (count_from l.number 0)

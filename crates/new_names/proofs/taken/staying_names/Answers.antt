@@ -12,11 +12,11 @@ use Rattle.new_names.proofs.taken.staying_names.Goals.{else-keeps_name, then-kee
 
 pub loop-i-init : goal.loop-i-init
 unfolding staying_names
-loop-i-init c = record { names = ap (λ (ns : List (Bor Text)). map (λ n. n.now) ns) c.new-names.ensures.items; few = omega (arith, ap length c.new-names.ensures.items) }
+loop-i-init g c = record { names = ap (λ (ns : List (Bor Text)). map (λ n. n.now) ns) c.new-names.ensures.items; few = omega (arith, ap length c.new-names.ensures.items) }
 
 pub loop-i-preserved : goal.loop-i-preserved
 unfolding place_of
-loop-i-preserved c =
+loop-i-preserved g c =
     let l = c.args.list.now in
     let p = place_in l c.place-place.result in
     let i = c.loop-i.i in
@@ -33,6 +33,6 @@ loop-i-preserved c =
     ]
 
 pub returns-clause-names : goal.returns-clause-names
-returns-clause-names c =
+returns-clause-names g c =
     let l = c.args.list.now in
     all_staying (places_in l) c.args.groups.now c.loop-i.i c.loop-i.names.items (c.requires.long ∙ sym (many_places l)) c.loop-i.invariant.names (omega (arith, c.loop-i-test.false))

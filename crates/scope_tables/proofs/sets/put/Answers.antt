@@ -7,7 +7,7 @@ use Rattle.scope_tables.proofs.sets.put.Goals as goal
 
 pub returns-in_ok-insert : goal.returns-in_ok-insert
 unfolding is_node
-returns-in_ok-insert c = λ n.
+returns-in_ok-insert g c = λ n.
     let s = c.args.set.now in
     c.in_ok-insert.ensures.updates.0 n
     ∙ set_at c.in-Some.node n true (has s n)
@@ -16,6 +16,6 @@ returns-in_ok-insert c = λ n.
 
 pub returns-in_default : goal.returns-in_default
 unfolding is_node
-returns-in_default c = λ n.
+returns-in_default g c = λ n.
     let s = c.args.set.now in
     or_false (has s n) ∙ ap (λ (o : Option ℕ). has s n || is_node o n) (sym c.in_default.is)

@@ -11,10 +11,10 @@ use Rattle.symbol_names.proofs.by_symbol.names_by_symbol.Goals as goal
 
 pub loop-i-init : goal.loop-i-init
 unfolding beside
-loop-i-init c = c.new-found.ensures.items
+loop-i-init g c = c.new-found.ensures.items
 
 pub loop-i-preserved : goal.loop-i-preserved
-loop-i-preserved c =
+loop-i-preserved g c =
     let l = c.args.tables.now.list in
     let flags : List Bool = symbol_flags (places_in l) in
     let many : length flags ≡ length l.places.items = length-map (places_in l) (is_symbol same_name (places_in l)) ∙ many_places l in
@@ -22,7 +22,7 @@ loop-i-preserved c =
     (let h : c.loop-i.i < length flags = omega (arith, many) in h) c.name_at.ensures c.in_ok-push_name.ensures
 
 pub returns : goal.returns
-returns c =
+returns g c =
     let l = c.args.tables.now.list in
     let flags : List Bool = symbol_flags (places_in l) in
     let many : length flags ≡ length l.places.items = length-map (places_in l) (is_symbol same_name (places_in l)) ∙ many_places l in

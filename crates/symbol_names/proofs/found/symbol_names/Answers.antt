@@ -1,6 +1,6 @@
 use Rattle.std.specs.Prelude.{◌≡◌, ◌≤◌, ◌<◌, ◌+◌, ◌^◌, List, length, map, string_bytes}
 use Rattle.std.specs.List.{AllByRecursion}
-use Rattle.std.proofs.Common.{ap, arith, sym, subst, String, Global, ◌∙◌}
+use Rattle.std.proofs.Common.{ap, arith, sym, subst, String, ◌∙◌}
 use Rattle.mangle_options.specs.Settings.{options_in, reserved_in}
 use Rattle.name_rules.proofs.GroupsInOrder.{slots_are_fewest}
 use Rattle.name_rules.specs.Groups.{greatest_width}
@@ -30,7 +30,7 @@ inline_names-requires g c =
     let o = options_in c.args.options.now c.args.top_level in
     let t = c.requires.list.tree in
     let new = c.in_ok-new.ensures t c.requires.list.are in
-    subst (λ (ss : List (String Global)). AllByRecursion (λ s. IsInline (string_bytes s)) ss) (sym c.as_slice.ensures.value)
+    subst (λ (ss : List (String _)). AllByRecursion (λ s. IsInline (string_bytes s)) ss) (sym c.as_slice.ensures.value)
     (names_inline o t c.requires.list.few new.limit new.low c.in_ok-new.new.names.items new.names)
 
 pub overflow_cast-result : goal.overflow_cast-result
@@ -50,7 +50,7 @@ returns g c = λ t is.
     let new = c.in_ok-new.new in
     let given : List Text = map string_bytes new.names.items in
     symbols_named o t l is new (c.in_ok-new.ensures t is) c.as_slice-3.result.now
-    (c.as_slice-3.ensures.value ∙ c.in_ok-inline.ensures ∙ ap (λ (ss : List (String Global)). map string_bytes ss) c.as_slice.ensures.value)
+    (c.as_slice-3.ensures.value ∙ c.in_ok-inline.ensures ∙ ap (λ (ss : List (String _)). map string_bytes ss) c.as_slice.ensures.value)
     _
     (c.in_ok-names.ensures ∙ ap (λ cs. beside (symbol_flags (places_in l)) (name_at c.as_slice-3.result.now cs) 0) c.as_slice-2.ensures.value)
     (omega arith)

@@ -16,14 +16,14 @@ use Rattle.tree_places.specs.Scopes.{Scope}
 use Rattle.kept_names.proofs.kept.Causes.is_kept_alone.Goals as goal
 
 pub is_of_root-of_root-requires : goal.is_of_root-of_root-requires
-is_of_root-of_root-requires c = record { bounded = c.requires.bounded; home = subst (IsScope c.args.list.now) (sym c.home-home.ensures.number) (home_is_known c.args.list.now c.args.place.now.place c.requires) }
+is_of_root-of_root-requires g c = record { bounded = c.requires.bounded; home = subst (IsScope c.args.list.now) (sym c.home-home.ensures.number) (home_is_known c.args.list.now c.args.place.now.place c.requires) }
 
 pub is_exported-exported-requires : goal.is_exported-exported-requires
-is_exported-exported-requires c = record { bounded = c.requires.bounded; home = subst (IsScope c.args.list.now) (sym c.home-home.ensures.number) (home_is_known c.args.list.now c.args.place.now.place c.requires) }
+is_exported-exported-requires g c = record { bounded = c.requires.bounded; home = subst (IsScope c.args.list.now) (sym c.home-home.ensures.number) (home_is_known c.args.list.now c.args.place.now.place c.requires) }
 
 pub returns : goal.returns
 unfolding is_kept_alone is_of_root is_exported exports is_place_of bound_of place_of site_of node
-returns c = λ o bs are.
+returns g c = λ o bs are.
     let l = c.args.list.now in
     let q = c.args.place.now in
     let known : IsScope l c.home-home.result = subst (IsScope l) (sym c.home-home.ensures.number) (home_is_known l q.place c.requires) in

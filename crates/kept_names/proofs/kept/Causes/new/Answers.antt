@@ -9,7 +9,7 @@ use Rattle.kept_names.proofs.kept.Causes.new.Goals as goal
 
 pub returns : goal.returns
 unfolding options_in
-returns c =
+returns g c =
     let l = c.args.list.now in
     record {
       top_level = refl;

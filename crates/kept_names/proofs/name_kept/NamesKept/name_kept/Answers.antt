@@ -10,7 +10,7 @@ use Rattle.kept_names.proofs.name_kept.NamesKept.name_kept.Goals as goal
 
 pub returns : goal.returns
 unfolding name_kept bound_of place_of site_of setting_of node
-returns c = λ p bs names.
+returns g c = λ p bs names.
     let k = c.args.self.now in
     let q = c.args.place.now in
     let b = bound_of p q in

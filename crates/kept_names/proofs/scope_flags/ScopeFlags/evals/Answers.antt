@@ -11,7 +11,7 @@ use Rattle.tree_places.specs.Places.{Place}
 use Rattle.kept_names.proofs.scope_flags.ScopeFlags.evals.Goals as goal
 
 pub returns : goal.returns
-returns c =
+returns g c =
     let l = c.args.list.now in
     flags_hold l (holds_eval (places_in l)) _ c.in_ok-scopes_with_evals.ensures
     (c.has_eval.ensures ∙ ap (λ (es : List PlaceEntry). list_any is_eval (places_of l es)) c.as_slice.ensures.value ∙ ap (λ (ps : List Place). list_any is_eval ps) (all_places l) ∙ any_eval (places_in l))

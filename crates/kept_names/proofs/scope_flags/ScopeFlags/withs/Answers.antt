@@ -6,7 +6,7 @@ use Rattle.place_list.specs.TableViews.{withs_in}
 use Rattle.kept_names.proofs.scope_flags.ScopeFlags.withs.Goals as goal
 
 pub returns : goal.returns
-returns c =
+returns g c =
     let l = c.args.list.now in
     flags_hold l (holds_with (withs_in l)) _ c.in_ok-scopes_with_withs.ensures
     (ap not (c.is_empty.ensures ∙ ap (λ (os : List (Option ℕ)). nat_eq (length os) 0) c.as_slice.ensures.value) ∙ any_of_withs l)

@@ -10,7 +10,7 @@ use Rattle.mangle_options.proofs.reserved.ReservedNames.new.Goals as goal
 
 pub returns : goal.returns
 unfolding is_reserved options_in
-returns c = λ r x.
+returns g c = λ r x.
     ap (λ (b : Bool). same_name x name_arguments || b)
     (c.in_ok-names_of.ensures x
     ∙ ap (λ (ns : List (Bor Text)). is_among (map (λ n. n.now) ns) x) c.as_slice.ensures.value

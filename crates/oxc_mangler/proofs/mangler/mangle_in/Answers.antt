@@ -17,18 +17,18 @@ use Rattle.tree_nodes.specs.NodeCount.{nodes_in}
 use Rattle.tree_nodes.specs.Tree.{Text, alone}
 use Rattle.tree_places.specs.Places.{Place, places}
 use Rattle.tree_symbols.specs.Scopings.{name_set, places_of, tables_of}
-use Rattle.oxc_mangler.proofs.mangler.mangle.Goals as goal
+use Rattle.oxc_mangler.proofs.mangler.mangle_in.Goals as goal
 
 pub from_list-requires-clause-rising : goal.from_list-requires-clause-rising
-from_list-requires-clause-rising c = nodes_rise c.in_ok-list.list _ c.in_ok-list.ensures.places
+from_list-requires-clause-rising g c = nodes_rise c.in_ok-list.list _ c.in_ok-list.ensures.places
 
 pub returns-then-has_fault-clause-faulty : goal.returns-then-has_fault-clause-faulty
-returns-then-has_fault-clause-faulty c = λ e.
+returns-then-has_fault-clause-faulty g c = λ e.
     let m = c.in_ok-tables.tables in
     sym (ap (has_fault same_name) (ap places_in c.in_ok-tables.ensures.list ∙ c.in_ok-list.ensures.places)) ∙ sym c.has_fault.ensures ∙ c.if-has_fault.true
 
 pub find_names-requires-clause-list : goal.find_names-requires-clause-list
-find_names-requires-clause-list c =
+find_names-requires-clause-list g c =
     let t = alone c.args.root.now in
     let same = c.in_ok-tables.ensures.list in
     record {
@@ -42,7 +42,7 @@ find_names-requires-clause-list c =
     }
 
 pub set_names-requires-clause-few : goal.set_names-requires-clause-few
-set_names-requires-clause-few c =
+set_names-requires-clause-few g c =
     let t = alone c.args.root.now in
     let same = c.in_ok-tables.ensures.list in
     let found = c.in_ok-found.ensures.symbols t (record {
@@ -55,7 +55,7 @@ set_names-requires-clause-few c =
     omega (arith, many, found.many, ap length c.as_slice.ensures.value)
 
 pub returns-clause-mangled : goal.returns-clause-mangled
-returns-clause-mangled c =
+returns-clause-mangled g c =
     let t = alone c.args.root.now in
     let same = c.in_ok-tables.ensures.list in
     let placed = ap places_in same ∙ c.in_ok-list.ensures.places in
@@ -81,7 +81,7 @@ returns-clause-mangled c =
     }
 
 pub returns-clause-laws : goal.returns-clause-laws
-returns-clause-laws c = λ program.
+returns-clause-laws g c = λ program.
     let t = alone c.args.root.now in
     let same = c.in_ok-tables.ensures.list in
     let found = c.in_ok-found.ensures.symbols t (record {

@@ -4,7 +4,7 @@ use Rattle.class_tables.specs.PrivateTables.{list_in}
 use Rattle.oxc_mangler.specs.ClassNames.{AreClassNames}
 use Rattle.place_list.specs.TableViews.{places_in}
 use Rattle.place_list.specs.declared.tables.PlaceList.{PlaceList}
-use Rattle.oxc_mangler.proofs.naming.find_names_in.Goals as goal
+use Rattle.oxc_mangler.proofs.naming.find_names.Goals as goal
 
 pub new-requires : goal.new-requires
 new-requires g c = c.requires.tables.bounded
