@@ -5,3 +5,5 @@ pub mod PrintedLists
 pub mod ByKind
 pub mod Shaped
 pub mod Targets
+pub mod FieldsAlone
+pub mod FirstLevel

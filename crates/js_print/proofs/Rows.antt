@@ -53,8 +53,12 @@ pub where_unset : {A : Type 0} (b : Bool) (o : Option A) (P : A → Type 0) → 
 where_unset true o P h = tt
 where_unset false o P h = h
 
-pub one_of : {A : Type 0} (b : Bool) (o p : Option A) (P : A → Type 0) (value : Bool) → b ≡ value → IfSome (if value then o else p) P → IfSome (if b then o else p) P
-one_of b o p P value e h = subst (λ (x : Bool). IfSome (if x then o else p) P) (sym e) h
+-- where the first mark is unset, one of two by the second
+pub one_of : {T E : Type 0} (r : Result T E) (without b value : Bool) (o p : Option Shape) (P : Shape → Type 0) → b ≡ value
+    → OnOk r (IfSome (if value then o else p) P) → OnOk r (IfSome (if without then None else (if b then o else p)) P)
+one_of (Err e) without b value o p P same h = tt
+one_of (Ok x) without b value o p P same h =
+    where_unset without (if b then o else p) P (subst (λ (y : Bool). IfSome (if y then o else p) P) (sym same) h)
 
 -- no operator, nothing printed
 pub no_operator : {A B : Type 0} (f : A → B → Shape) (p : Option B) (o : Option A) (P : Shape → Type 0) → None ≡ o → IfSome (two f o p) P

@@ -1,14 +1,16 @@
 use Rattle.std.proofs.Common.{◌≡◌, ◌≤◌, not, slice_get, sym, ap, ◌∙◌}
 use Rattle.std.specs.Prelude.{is_some}
 use Rattle.tree_nodes.specs.Look.{parts_len}
-use Rattle.tree_nodes.specs.Tree.{Parts}
+use Rattle.tree_nodes.specs.Tree.{Tree}
 use Rattle.tree_nodes.proofs.Lists.{past_items, past_len}
 use Rattle.js_grammar.specs.Expressions.{assignment_operators, binary_operators, logical_operators, target, unary_operators, update_operators}
-use Rattle.js_grammar.specs.Shapes.{Shape}
+use Rattle.js_print.specs.Kinds.{of_kind, target_kind}
+use Rattle.js_print.proofs.FieldsAlone.{no_node}
 use Rattle.js_print.proofs.PartsAt.{shape_found, shape_missing, shape_of_node, shapes_found, shapes_missing}
 use Rattle.js_print.proofs.PrintedLists.{tests_end, tests_go_on, tests_pass, tests_stop}
 use Rattle.js_print.proofs.Shaped as shaped
 use Rattle.js_print.proofs.Shaped.{both_are, three_are}
+use Rattle.js_print.proofs.Targets.{target_of_kind}
 use Rattle.js_print.proofs.printable.+printable.Goals as goal
 
 pub is_array-returns : goal.is_array-returns
@@ -78,4 +80,16 @@ pub are_printable-returns-in_default : goal.are_printable-returns-in_default
 are_printable-returns-in_default t c = sym (c.loop-i.invariant ∙ tests_end c.args.nodes.now c.loop-i.i (past_items c.args.nodes.now c.loop-i.i (sym c.in_default.ensures.item)))
 
 pub is_printable-returns : goal.is_printable-returns
-is_printable-returns t c = c.has_shape.ensures ∙ ap is_some (sym (shape_of_node c.args.node.now))
+is_printable-returns t c = c.has_shape.ensures ∙ ap (λ (x : Tree). is_some (of_kind x.kind x.fields)) c.node.view_is ∙ ap is_some (sym (shape_of_node c.args.node.now))
+
+pub is_target-returns-in-Child : goal.is_target-returns-in-Child
+is_target-returns-in-Child t c =
+    let x = c.in-Child.node.value in
+    c.both.ensures
+    ∙ both_are _ _ _ _ (c.is_target_kind.ensures ∙ ap (λ (y : Tree). target_kind y.kind) c.behind-node.view_is) (c.is_printable-printable.ensures ∙ ap is_some (shape_of_node x))
+    ∙ sym (target_of_kind x.kind x.fields)
+    ∙ ap (λ o. is_some (target o)) (sym (shape_of_node x))
+
+pub is_target-returns-in_default : goal.is_target-returns-in_default
+unfolding target
+is_target-returns-in_default t c = ap (λ o. is_some (target o)) (no_node c.args.field.now c.in_default.not-Child)
