@@ -6,7 +6,7 @@ ghost use Rattle.std.specs.Prelude.{[], get_or};
 ghost use Rattle.json_text.specs.Strings.{quoted_units};
 ghost use Rattle.js_print.specs.Views.{token_of};
 
-use crate::token::{PUNCTS, Token};
+use crate::token::{PUNCTS, Token, puncts_are_those_of_the_grammar};
 use crate::tokens::Tokens;
 use oxc_estree::{CompactSerializer, ESTree};
 use oxc_str::JSText;
@@ -42,11 +42,18 @@ fn push_spelling(alloc: Global, token: &Token, text: &mut String) -> Result<(), 
 }
 
 // How a punctuator is written.
-#[tactic(auto, unfolding(js_grammar::specs::Tokens::puncts))]
 fn punct_text(number: u8) -> &'static str
     ensures { result.now ≡ get_or puncts number [] }
 {
-    match PUNCTS.get(number as usize) {
+    puncts_are_those_of_the_grammar();
+    text_at(&PUNCTS, number)
+}
+
+// The text of a number in a list.
+fn text_at(texts: &[&'static str], number: u8) -> &'static str
+    ensures { result.now ≡ get_or (map (λ text. text.now) texts.now) number [] }
+{
+    match texts.get(number as usize) {
         Some(text) => text,
         None => "",
     }

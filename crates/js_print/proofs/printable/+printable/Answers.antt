@@ -2,8 +2,9 @@ use Rattle.std.proofs.Common.{◌≡◌, ◌≤◌, not, slice_get, sym, ap, ◌
 use Rattle.std.specs.Prelude.{is_some}
 use Rattle.tree_nodes.specs.Look.{parts_len}
 use Rattle.tree_nodes.specs.Tree.{Tree}
+use Rattle.tree_nodes.specs.Views.{part_of}
 use Rattle.tree_nodes.proofs.Lists.{past_items, past_len}
-use Rattle.js_grammar.specs.Expressions.{assignment_operators, binary_operators, logical_operators, target, unary_operators, update_operators}
+use Rattle.js_grammar.specs.Expressions.{assignment_operators, binary_operators, logical_operators, shape_at, shape_of, target, unary_operators, update_operators}
 use Rattle.js_print.specs.Kinds.{of_kind, target_kind}
 use Rattle.js_print.proofs.FieldsAlone.{no_node}
 use Rattle.js_print.proofs.PartsAt.{shape_found, shape_missing, shape_of_node, shapes_found, shapes_missing}
@@ -85,10 +86,12 @@ is_printable-returns t c = c.has_shape.ensures ∙ ap (λ (x : Tree). is_some (o
 pub is_target-returns-in-Child : goal.is_target-returns-in-Child
 is_target-returns-in-Child t c =
     let x = c.in-Child.node.value in
+    let same = c.behind-node.view_is ∙ c.deref-in-Child.ensures in
     c.both.ensures
-    ∙ both_are _ _ _ _ (c.is_target_kind.ensures ∙ ap (λ (y : Tree). target_kind y.kind) c.behind-node.view_is) (c.is_printable-printable.ensures ∙ ap is_some (shape_of_node x))
+    ∙ both_are _ _ _ _ (c.is_target_kind.ensures ∙ ap (λ (y : Tree). target_kind y.kind) same) (c.is_printable-printable.ensures ∙ ap (λ y. is_some (shape_of y)) c.deref.ensures ∙ ap is_some (shape_of_node x))
     ∙ sym (target_of_kind x.kind x.fields)
     ∙ ap (λ o. is_some (target o)) (sym (shape_of_node x))
+    ∙ ap (λ f. is_some (target (shape_at (part_of f) 0))) (sym c.in-Child.is)
 
 pub is_target-returns-in_default : goal.is_target-returns-in_default
 unfolding target
