@@ -1,18 +1,21 @@
 -- What the shape of a node is like, by its kind.
-use Rattle.std.proofs.Common.{◌≡◌, ℕ, zero, suc, ◌<◌, ◌≤◌, Bool, true, false, not, ◌&&◌, ◌==◌, Option, Some, None, IfSome, option_map, slice_get, inl, inr, if◌then◌else◌, refl, sym, ap, ◌∙◌, arith}
+use Rattle.std.proofs.Common.{◌≡◌, ℕ, zero, suc, ◌<◌, ◌≤◌, Bool, true, false, not, ◌&&◌, ◌==◌, Option, Some, None, IfSome, option_map, slice_get, inl, inr, if◌then◌else◌, refl, sym, ap, subst, ◌∙◌, arith}
 use Rattle.std.specs.Prelude.{nat_eq, nat_le}
-use Rattle.std.proofs.lemmas.Bool.{le-leb, nle-leb}
+use Rattle.std.proofs.lemmas.Bool.{le-leb}
+use Rattle.std.proofs.lemmas.Bool.Decides.{nat_tests}
 use Rattle.syntax_lex.specs.declared.operator.binary.BinaryOperator.{BinaryOperator}
 use Rattle.syntax_lex.specs.declared.operator.logical.LogicalOperator.{LogicalOperator}
 use Rattle.syntax_lex.specs.declared.operator.update.UpdateOperator.{UpdateOperator}
+use Rattle.tree_nodes.proofs.EachKind.{kind_told}
 use Rattle.tree_nodes.specs.Kinds.{is_kind, kind_number}
 use Rattle.tree_nodes.specs.Literals.{case_of}
-use Rattle.tree_nodes.specs.Tree.{Parts, flag_of, part, text_of, word_of}
+use Rattle.tree_nodes.specs.Tree.{Parts, Tree, flag_of, part, text_of, word_of}
 use Rattle.tree_nodes.specs.declared.kind.Kind.{Kind}
 use Rattle.tree_nodes.specs.declared.kind.Kind.TheVariants.{ArrayExpression, AssignmentExpression, BinaryExpression, CallExpression, ConditionalExpression, Identifier, Literal, LogicalExpression, MemberExpression, NewExpression, SequenceExpression, ThisExpression, UnaryExpression, UpdateExpression}
-use Rattle.js_grammar.specs.Expressions.{assignment_operators, binary_operators, in_sequence, literal_operand, logical_operators, plain_name, shape_at, shape_from, shapes_at, target, three, two, unary_operators, unreserved, update_operators, updated}
+use Rattle.js_grammar.specs.Expressions.{assignment_operators, binary_operators, in_sequence, literal_operand, logical_operators, plain_name, shape_at, shape_from, shape_of, shapes_at, target, three, two, unary_operators, unreserved, update_operators, updated}
 use Rattle.js_grammar.specs.Printed.{is_coalesce, is_over_call, level}
 use Rattle.js_grammar.specs.Shapes.{Array, Assign, Binary, Call, Conditional, Index, Infix, Logical, Member, New, One, Operator, Postfix, Prefix, Sequence, Shape, Shapes, Unary, also, is_target, none}
+use Rattle.js_print.proofs.PartsAt.{shape_of_node}
 use Rattle.js_print.specs.Kinds.{binary_level, is_member, level_by_kind, logical_level, of_kind}
 
 pub of_map : {A : Type 0} (f : A → Shape) (P : Shape → Type 0) (o : Option A) → ((a : A) → P (f a)) → IfSome (option_map f o) P
@@ -73,7 +76,7 @@ logical_told (Some o) None q = tt
 logical_told (Some o) (Some x) None = tt
 logical_told (Some o) (Some x) (Some y) = record { level_is = refl; member_is = refl; logical_is = refl }
 
-pub told : (k : Kind) (fields : Parts) → IfSome (of_kind k fields) (Told (level_by_kind k fields) (is_kind k MemberExpression) (is_kind k LogicalExpression))
+told : (k : Kind) (fields : Parts) → IfSome (of_kind k fields) (Told (level_by_kind k fields) (is_kind k MemberExpression) (is_kind k LogicalExpression))
 unfolding shape_from level_by_kind is_kind
 told Identifier fields = of_map One (Told 23 false false) (unreserved (text_of fields)) (λ o. record { level_is = refl; member_is = refl; logical_is = refl })
 told Literal fields = of_map One (Told 23 false false) (literal_operand fields) (λ o. record { level_is = refl; member_is = refl; logical_is = refl })
@@ -103,6 +106,9 @@ told MemberExpression fields =
         (of_two Member (Told 22 true false) (shape_at fields 0) (plain_name (part fields 1)) (λ s w. record { level_is = refl; member_is = refl; logical_is = refl })))
 told SequenceExpression fields = of_sequence (Told 1 false false) (shapes_at fields 0) (λ x ss. record { level_is = refl; member_is = refl; logical_is = refl })
 told _ fields = tt
+
+pub all_told : (t : Tree) → IfSome (shape_of t) (Told (level_by_kind t.kind t.fields) (is_kind t.kind MemberExpression) (is_kind t.kind LogicalExpression))
+all_told t = subst (λ o. IfSome o (Told (level_by_kind t.kind t.fields) (is_kind t.kind MemberExpression) (is_kind t.kind LogicalExpression))) (sym (shape_of_node t)) (told t.kind t.fields)
 
 -- ---- calls, and members over one
 
@@ -175,21 +181,30 @@ logical_row (suc (suc zero)) (Some x) None = tt
 logical_row (suc (suc zero)) (Some x) (Some y) = refl
 logical_row (suc (suc (suc n))) p q = tt
 
-pub logical_is_row : (fields : Parts) → IfSome (of_kind LogicalExpression fields) (λ s. nat_eq (word_of (part fields 1)) 2 ≡ is_coalesce s)
+logical_is_row : (fields : Parts) → IfSome (of_kind LogicalExpression fields) (λ s. nat_eq (word_of (part fields 1)) 2 ≡ is_coalesce s)
 unfolding shape_from
 logical_is_row fields = logical_row (word_of (part fields 1)) (shape_at fields 0) (shape_at fields 2)
+
+-- of a node of that kind, by the test of kinds
+pub is_row : (t : Tree) → true ≡ is_kind t.kind LogicalExpression → IfSome (shape_of t) (λ s. nat_eq (word_of (part t.fields 1)) 2 ≡ is_coalesce s)
+unfolding is_kind
+is_row t h = subst (λ o. IfSome o (λ s. nat_eq (word_of (part t.fields 1)) 2 ≡ is_coalesce s)) (sym (shape_of_node t))
+    (subst (λ k. IfSome (of_kind k t.fields) (λ s. nat_eq (word_of (part t.fields 1)) 2 ≡ is_coalesce s)) (sym (kind_told t.kind LogicalExpression (kinds_apart (sym h)))) (logical_is_row t.fields))
+  where
+    kinds_apart : is_kind t.kind LogicalExpression ≡ true → nat_eq (kind_number t.kind) (kind_number LogicalExpression) ≡ true
+    kinds_apart e = e
 
 no_row : (s : Shape) → false ≡ is_logical s → false ≡ is_coalesce s
 no_row (Infix (Logical o) x y) h = absurd (cc)
 no_row (Infix (Binary o) x y) h = refl
 no_row s h = refl
 
-pub other_is_no_row : (k : Kind) (fields : Parts) → false ≡ is_kind k LogicalExpression → IfSome (of_kind k fields) (λ s. false ≡ is_coalesce s)
-other_is_no_row k fields h = if_told (of_kind k fields) (told k fields)
+pub is_no_row : (t : Tree) → false ≡ is_kind t.kind LogicalExpression → IfSome (shape_of t) (λ s. false ≡ is_coalesce s)
+is_no_row t h = if_told (shape_of t) (all_told t)
   where
-    if_told : (o : Option Shape) → IfSome o (Told (level_by_kind k fields) (is_kind k MemberExpression) (is_kind k LogicalExpression)) → IfSome o (λ s. false ≡ is_coalesce s)
-    if_told None t = tt
-    if_told (Some s) t = no_row s (h ∙ t.logical_is)
+    if_told : (o : Option Shape) → IfSome o (Told (level_by_kind t.kind t.fields) (is_kind t.kind MemberExpression) (is_kind t.kind LogicalExpression)) → IfSome o (λ s. false ≡ is_coalesce s)
+    if_told None told = tt
+    if_told (Some s) told = no_row s (h ∙ told.logical_is)
 
 -- ---- where a shape stands bare
 
@@ -217,13 +232,13 @@ callee_test false n h = sym (le-leb 22 n h)
 
 lower_test : (over : Bool) (n : ℕ) → ¬ (22 ≤ n) → false ≡ nat_le 22 (if over then 21 else n)
 lower_test true n h = refl
-lower_test false n h = sym (nle-leb 22 n h)
+lower_test false n h = sym (grind (arith, nat_tests, h))
 
 -- at the level of what `new` calls
-pub callee_bare : (s : Shape) (n : ℕ) → n ≡ flat_level s → 22 ≤ n → (over : Bool) → over ≡ over_call s → not over ≡ nat_le 22 (level s)
+callee_bare : (s : Shape) (n : ℕ) → n ≡ flat_level s → 22 ≤ n → (over : Bool) → over ≡ over_call s → not over ≡ nat_le 22 (level s)
 callee_bare s n e h over f = callee_test over n h ∙ ap (λ b. nat_le 22 (if b then 21 else n)) f ∙ ap (λ m. nat_le 22 (if over_call s then 21 else m)) e ∙ ap (nat_le 22) (sym (level_by s))
 
-pub callee_not_bare : (s : Shape) (n : ℕ) → n ≡ flat_level s → ¬ (22 ≤ n) → false ≡ nat_le 22 (level s)
+callee_not_bare : (s : Shape) (n : ℕ) → n ≡ flat_level s → ¬ (22 ≤ n) → false ≡ nat_le 22 (level s)
 callee_not_bare s n e h = lower_test (over_call s) n h ∙ ap (λ m. nat_le 22 (if over_call s then 21 else m)) e ∙ ap (nat_le 22) (sym (level_by s))
 
 at_lower : (k : ℕ) (s : Shape) → k ≤ 21 → (b : Bool) → over_call s ≡ b → nat_le k (flat_level s) ≡ nat_le k (if b then 21 else flat_level s)
@@ -233,5 +248,45 @@ at_lower k s h true f =
     ap (nat_le k) flat ∙ le-leb k 22 (omega (arith, h)) ∙ sym (le-leb k 21 h)
 
 -- at any lower one
-pub lower_bare : (k : ℕ) (s : Shape) (n : ℕ) → k ≤ 21 → n ≡ flat_level s → nat_le k n ≡ nat_le k (level s)
+lower_bare : (k : ℕ) (s : Shape) (n : ℕ) → k ≤ 21 → n ≡ flat_level s → nat_le k n ≡ nat_le k (level s)
 lower_bare k s n h e = ap (nat_le k) e ∙ at_lower k s h (over_call s) refl ∙ ap (nat_le k) (sym (level_by s))
+
+-- ---- the same of a node, where its kind gives the level
+
+abbrev told_at : Tree → Shape → Type 0
+told_at t = Told (level_by_kind t.kind t.fields) (is_kind t.kind MemberExpression) (is_kind t.kind LogicalExpression)
+
+pub node_bare : (t : Tree) (k : ℕ) → k ≤ 21 → IfSome (shape_of t) (λ s. nat_le k (level_by_kind t.kind t.fields) ≡ nat_le k (level s))
+node_bare t k h = on_told (shape_of t) (all_told t)
+  where
+    on_told : (o : Option Shape) → IfSome o (told_at t) → IfSome o (λ s. nat_le k (level_by_kind t.kind t.fields) ≡ nat_le k (level s))
+    on_told None told = tt
+    on_told (Some s) told = lower_bare k s (level_by_kind t.kind t.fields) h told.level_is
+
+pub node_not_callee : (t : Tree) → ¬ (22 ≤ level_by_kind t.kind t.fields) → IfSome (shape_of t) (λ s. false ≡ nat_le 22 (level s))
+node_not_callee t h = on_told (shape_of t) (all_told t)
+  where
+    on_told : (o : Option Shape) → IfSome o (told_at t) → IfSome o (λ s. false ≡ nat_le 22 (level s))
+    on_told None told = tt
+    on_told (Some s) told = callee_not_bare s (level_by_kind t.kind t.fields) told.level_is h
+
+pub node_callee : (t : Tree) → 22 ≤ level_by_kind t.kind t.fields → (over : Bool) → IfSome (shape_of t) (λ s. over ≡ (is_member s && is_over_call s)) → IfSome (shape_of t) (λ s. not over ≡ nat_le 22 (level s))
+node_callee t h over f = on_told (shape_of t) (all_told t) f
+  where
+    on_told : (o : Option Shape) → IfSome o (told_at t) → IfSome o (λ s. over ≡ (is_member s && is_over_call s)) → IfSome o (λ s. not over ≡ nat_le 22 (level s))
+    on_told None told g = tt
+    on_told (Some s) told g = callee_bare s (level_by_kind t.kind t.fields) told.level_is h over g
+
+pub member_over : (t : Tree) → true ≡ is_kind t.kind MemberExpression → (over : Bool) → IfSome (shape_of t) (λ s. over ≡ is_over_call s) → IfSome (shape_of t) (λ s. over ≡ (is_member s && is_over_call s))
+member_over t h over f = on_told (shape_of t) (all_told t) f
+  where
+    on_told : (o : Option Shape) → IfSome o (told_at t) → IfSome o (λ s. over ≡ is_over_call s) → IfSome o (λ s. over ≡ (is_member s && is_over_call s))
+    on_told None told g = tt
+    on_told (Some s) told g = g ∙ ap (λ b. b && is_over_call s) (h ∙ told.member_is)
+
+pub not_member : (t : Tree) → false ≡ is_kind t.kind MemberExpression → IfSome (shape_of t) (λ s. false ≡ (is_member s && is_over_call s))
+not_member t h = on_told (shape_of t) (all_told t)
+  where
+    on_told : (o : Option Shape) → IfSome o (told_at t) → IfSome o (λ s. false ≡ (is_member s && is_over_call s))
+    on_told None told = tt
+    on_told (Some s) told = ap (λ b. b && is_over_call s) (h ∙ told.member_is)
