@@ -7,3 +7,4 @@ pub mod Shaped
 pub mod Targets
 pub mod FieldsAlone
 pub mod FirstLevel
+pub mod JoinedTexts
