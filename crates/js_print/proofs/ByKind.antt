@@ -101,9 +101,9 @@ told MemberExpression fields =
     let index = two Index (shape_at fields 0) (shape_at fields 1) in
     let name = two Member (shape_at fields 0) (plain_name (part fields 1)) in
     of_either (Told 22 true false) (flag_of (part fields 3)) None (if flag_of (part fields 2) then index else name) tt
-      (of_either (Told 22 true false) (flag_of (part fields 2)) index name
-        (of_two Index (Told 22 true false) (shape_at fields 0) (shape_at fields 1) (λ s x. record { level_is = refl; member_is = refl; logical_is = refl }))
-        (of_two Member (Told 22 true false) (shape_at fields 0) (plain_name (part fields 1)) (λ s w. record { level_is = refl; member_is = refl; logical_is = refl })))
+    (of_either (Told 22 true false) (flag_of (part fields 2)) index name
+    (of_two Index (Told 22 true false) (shape_at fields 0) (shape_at fields 1) (λ s x. record { level_is = refl; member_is = refl; logical_is = refl }))
+    (of_two Member (Told 22 true false) (shape_at fields 0) (plain_name (part fields 1)) (λ s w. record { level_is = refl; member_is = refl; logical_is = refl })))
 told SequenceExpression fields = of_sequence (Told 1 false false) (shapes_at fields 0) (λ x ss. record { level_is = refl; member_is = refl; logical_is = refl })
 told _ fields = tt
 
@@ -132,9 +132,9 @@ member_is_over fields r h =
     let index = two Index (shape_at fields 0) (shape_at fields 1) in
     let name = two Member (shape_at fields 0) (plain_name (part fields 1)) in
     of_either (IsOver r) (flag_of (part fields 3)) None (if flag_of (part fields 2) then index else name) tt
-      (of_either (IsOver r) (flag_of (part fields 2)) index name
-        (over_object Index r (shape_at fields 0) (shape_at fields 1) (λ s x. refl) h)
-        (over_object Member r (shape_at fields 0) (plain_name (part fields 1)) (λ s w. refl) h))
+    (of_either (IsOver r) (flag_of (part fields 2)) index name
+    (over_object Index r (shape_at fields 0) (shape_at fields 1) (λ s x. refl) h)
+    (over_object Member r (shape_at fields 0) (plain_name (part fields 1)) (λ s w. refl) h))
 
 updated_is_not_over : (b : Bool) (o : UpdateOperator) (s : Shape) → IsOver false (updated b o s)
 updated_is_not_over true o s = refl
@@ -149,10 +149,10 @@ other_is_not_over ArrayExpression fields h g = of_map Array (IsOver false) (shap
 other_is_not_over UnaryExpression fields h g =
     let argument = two Unary (slice_get unary_operators (word_of (part fields 0))) (shape_at fields 2) in
     of_either (IsOver false) (flag_of (part fields 1)) argument None
-      (of_two Unary (IsOver false) (slice_get unary_operators (word_of (part fields 0))) (shape_at fields 2) (λ o s. refl)) tt
+    (of_two Unary (IsOver false) (slice_get unary_operators (word_of (part fields 0))) (shape_at fields 2) (λ o s. refl)) tt
 other_is_not_over UpdateExpression fields h g =
     of_two (updated (flag_of (part fields 1))) (IsOver false) (slice_get update_operators (word_of (part fields 0))) (target (shape_at fields 2))
-      (updated_is_not_over (flag_of (part fields 1)))
+    (updated_is_not_over (flag_of (part fields 1)))
 other_is_not_over BinaryExpression fields h g =
     of_three (λ o x y. Infix (Binary o) x y) (IsOver false) (slice_get binary_operators (word_of (part fields 1))) (shape_at fields 0) (shape_at fields 2) (λ o x y. refl)
 other_is_not_over LogicalExpression fields h g =

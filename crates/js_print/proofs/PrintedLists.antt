@@ -80,7 +80,7 @@ pub list_ended : (nodes : Parts) (i : ℕ) (first now : List Token) → past i n
 list_ended nodes i first now e h =
     let over = ap shapes_in e ∙ none_left in
     all_done (shapes_in nodes) i first now
-      (subst (λ o. IfSome (shapes_in nodes) (λ ss. IsSomeAnd o (λ rest. now ++ following i rest ≡ first ++ parts ss))) over h)
+    (subst (λ o. IfSome (shapes_in nodes) (λ ss. IsSomeAnd o (λ rest. now ++ following i rest ≡ first ++ parts ss))) over h)
 
 -- ---- whether all have shapes
 

@@ -97,10 +97,10 @@ member fields =
     let name = two Member (shape_at fields 0) (plain_name (part fields 1)) in
     off_flag (flag_of (part fields 3)) (if computed then index else name)
     ∙ ap (λ b. not (flag_of (part fields 3)) && b)
-        (either_some computed index name
-        ∙ ap (λ b. if computed then b else is_some name) (some_two Index (shape_at fields 0) (shape_at fields 1))
-        ∙ ap (λ b. if computed then is_some (shape_at fields 0) && is_some (shape_at fields 1) else b) (some_two Member (shape_at fields 0) (plain_name (part fields 1)))
-        ∙ over_property computed (is_some (shape_at fields 0)) (is_some (shape_at fields 1)) (is_some (plain_name (part fields 1))))
+    (either_some computed index name
+    ∙ ap (λ b. if computed then b else is_some name) (some_two Index (shape_at fields 0) (shape_at fields 1))
+    ∙ ap (λ b. if computed then is_some (shape_at fields 0) && is_some (shape_at fields 1) else b) (some_two Member (shape_at fields 0) (plain_name (part fields 1)))
+    ∙ over_property computed (is_some (shape_at fields 0)) (is_some (shape_at fields 1)) (is_some (plain_name (part fields 1))))
 
 -- ---- a sequence
 

@@ -50,7 +50,7 @@ target_told ArrayExpression fields = of_map Array (Answers false) (shapes_at fie
 target_told UnaryExpression fields =
     let operator = slice_get unary_operators (word_of (part fields 0)) in
     of_either (Answers false) (flag_of (part fields 1)) (two Unary operator (shape_at fields 2)) None
-      (of_two Unary (Answers false) operator (shape_at fields 2) (λ o s. refl)) tt
+    (of_two Unary (Answers false) operator (shape_at fields 2) (λ o s. refl)) tt
 target_told UpdateExpression fields =
     of_two (updated (flag_of (part fields 1))) (Answers false) (slice_get update_operators (word_of (part fields 0))) (target (shape_at fields 2)) (updated_is (flag_of (part fields 1)))
 target_told BinaryExpression fields =
@@ -63,15 +63,15 @@ target_told ConditionalExpression fields =
     of_three Conditional (Answers false) (shape_at fields 0) (shape_at fields 1) (shape_at fields 2) (λ x y z. refl)
 target_told CallExpression fields =
     of_either (Answers false) (flag_of (part fields 2)) None (two Call (shape_at fields 0) (shapes_at fields 1)) tt
-      (of_two Call (Answers false) (shape_at fields 0) (shapes_at fields 1) (λ s ss. refl))
+    (of_two Call (Answers false) (shape_at fields 0) (shapes_at fields 1) (λ s ss. refl))
 target_told NewExpression fields = of_two New (Answers false) (shape_at fields 0) (shapes_at fields 1) (λ s ss. refl)
 target_told MemberExpression fields =
     let index = two Index (shape_at fields 0) (shape_at fields 1) in
     let name = two Member (shape_at fields 0) (plain_name (part fields 1)) in
     of_either (Answers true) (flag_of (part fields 3)) None (if flag_of (part fields 2) then index else name) tt
-      (of_either (Answers true) (flag_of (part fields 2)) index name
-        (of_two Index (Answers true) (shape_at fields 0) (shape_at fields 1) (λ s x. refl))
-        (of_two Member (Answers true) (shape_at fields 0) (plain_name (part fields 1)) (λ s w. refl)))
+    (of_either (Answers true) (flag_of (part fields 2)) index name
+    (of_two Index (Answers true) (shape_at fields 0) (shape_at fields 1) (λ s x. refl))
+    (of_two Member (Answers true) (shape_at fields 0) (plain_name (part fields 1)) (λ s w. refl)))
 target_told SequenceExpression fields = of_sequence (Answers false) (shapes_at fields 0) (λ x ss. refl)
 target_told _ fields = tt
 

@@ -34,7 +34,7 @@ print_list_at-returns-in-None t c = subst (λ o. Adds o parts c.args.tokens.now 
 pub print_items-loop-i-preserved : goal.print_items-loop-i-preserved
 print_items-loop-i-preserved t c =
     list_goes_on c.args.nodes.now c.loop-i.i c.in-Some.item.now c.args.tokens.now c.loop-i.tokens c.separate.new.tokens c.print_item.new.tokens
-      c.len-i-end.ensures.shaped c.in-Some.ensures.item c.loop-i.invariant c.in_ok-separate.ensures c.in_ok-print_item.ensures
+    c.len-i-end.ensures.shaped c.in-Some.ensures.item c.loop-i.invariant c.in_ok-separate.ensures c.in_ok-print_item.ensures
 
 pub print_items-returns-after-loop-i : goal.print_items-returns-after-loop-i
 print_items-returns-after-loop-i t c =
@@ -51,9 +51,9 @@ pub print_array-returns : goal.print_array-returns
 unfolding shape_from
 print_array-returns t c =
     on_ok _ _ _
-      (array_row (shapes_at c.args.fields.now 0) c.args.tokens.now c.open_square.new.tokens c.print_list_at.new.tokens c.close_square.new.tokens
-        c.in_ok-open_square.ensures c.in_ok-print_list_at.ensures)
-      c.close_square.ensures
+    (array_row (shapes_at c.args.fields.now 0) c.args.tokens.now c.open_square.new.tokens c.print_list_at.new.tokens c.close_square.new.tokens
+    c.in_ok-open_square.ensures c.in_ok-print_list_at.ensures)
+    c.close_square.ensures
 
 pub print_sequence-returns : goal.print_sequence-returns
 unfolding shape_from
@@ -63,25 +63,25 @@ pub print_conditional-returns : goal.print_conditional-returns
 unfolding shape_from
 print_conditional-returns t c =
     on_ok _ _ _
-      (conditional_row (shape_at c.args.fields.now 0) (shape_at c.args.fields.now 1) (shape_at c.args.fields.now 2)
-        c.args.tokens.now c.print_at.new.tokens c.question.new.tokens c.print_between.new.tokens c.in_ok-print_at.ensures c.in_ok-question.ensures)
-      c.print_between.ensures
+    (conditional_row (shape_at c.args.fields.now 0) (shape_at c.args.fields.now 1) (shape_at c.args.fields.now 2)
+    c.args.tokens.now c.print_at.new.tokens c.question.new.tokens c.print_between.new.tokens c.in_ok-print_at.ensures c.in_ok-question.ensures)
+    c.print_between.ensures
 
 pub print_call-returns : goal.print_call-returns
 unfolding shape_from
 print_call-returns t c =
     on_ok _ _ _
-      (λ h. where_unset (flag_of (part c.args.fields.now 2)) _ _
-        (call_row (shape_at c.args.fields.now 0) (shapes_at c.args.fields.now 1) c.args.tokens.now c.print_at.new.tokens c.print_arguments.new.tokens c.in_ok-print_at.ensures h))
-      c.print_arguments.ensures
+    (λ h. where_unset (flag_of (part c.args.fields.now 2)) _ _
+    (call_row (shape_at c.args.fields.now 0) (shapes_at c.args.fields.now 1) c.args.tokens.now c.print_at.new.tokens c.print_arguments.new.tokens c.in_ok-print_at.ensures h))
+    c.print_arguments.ensures
 
 pub print_new-returns : goal.print_new-returns
 unfolding shape_from
 print_new-returns t c =
     on_ok _ _ _
-      (new_row (shape_at c.args.fields.now 0) (shapes_at c.args.fields.now 1)
-        c.args.tokens.now c.push_word.new.self c.print_at.new.tokens c.print_arguments.new.tokens c.in_ok-push_word.ensures c.in_ok-print_at.ensures)
-      c.print_arguments.ensures
+    (new_row (shape_at c.args.fields.now 0) (shapes_at c.args.fields.now 1)
+    c.args.tokens.now c.push_word.new.self c.print_at.new.tokens c.print_arguments.new.tokens c.in_ok-push_word.ensures c.in_ok-print_at.ensures)
+    c.print_arguments.ensures
 
 pub print_member-returns-then-flag_at : goal.print_member-returns-then-flag_at
 unfolding shape_from
@@ -89,7 +89,7 @@ print_member-returns-then-flag_at t c =
     let index = two Index (shape_at c.args.fields.now 0) (shape_at c.args.fields.now 1) in
     let name = two Member (shape_at c.args.fields.now 0) (plain_name (part c.args.fields.now 1)) in
     one_of c.print_index.result (flag_of (part c.args.fields.now 3)) (flag_of (part c.args.fields.now 2)) true index name (λ s. c.print_index.new.tokens ≡ c.args.tokens.now ++ bare s)
-      (sym c.flag_at.ensures ∙ c.if-flag_at.true) c.print_index.ensures
+    (sym c.flag_at.ensures ∙ c.if-flag_at.true) c.print_index.ensures
 
 pub print_member-returns-else-flag_at : goal.print_member-returns-else-flag_at
 unfolding shape_from
@@ -97,7 +97,7 @@ print_member-returns-else-flag_at t c =
     let index = two Index (shape_at c.args.fields.now 0) (shape_at c.args.fields.now 1) in
     let name = two Member (shape_at c.args.fields.now 0) (plain_name (part c.args.fields.now 1)) in
     one_of c.print_named.result (flag_of (part c.args.fields.now 3)) (flag_of (part c.args.fields.now 2)) false index name (λ s. c.print_named.new.tokens ≡ c.args.tokens.now ++ bare s)
-      (sym c.flag_at.ensures ∙ c.if-flag_at.false) c.print_named.ensures
+    (sym c.flag_at.ensures ∙ c.if-flag_at.false) c.print_named.ensures
 
 -- ---- operators
 
@@ -106,9 +106,9 @@ unfolding shape_from
 print_unary-returns-in-Some t c =
     let operator = sym c.in-Some.is ∙ c.unary_operator.ensures ∙ ap (λ n. slice_get unary_operators n) c.word_at.ensures in
     on_ok _ _ _
-      (λ h. where_set (flag_of (part c.args.fields.now 1)) _ _
-        (subst (λ o. Adds (two Unary o (shape_at c.args.fields.now 2)) bare c.args.tokens.now c.print_unary_by.new.tokens) operator h))
-      c.print_unary_by.ensures
+    (λ h. where_set (flag_of (part c.args.fields.now 1)) _ _
+    (subst (λ o. Adds (two Unary o (shape_at c.args.fields.now 2)) bare c.args.tokens.now c.print_unary_by.new.tokens) operator h))
+    c.print_unary_by.ensures
 
 pub print_unary-returns-in-None : goal.print_unary-returns-in-None
 unfolding shape_from
@@ -122,9 +122,9 @@ print_update-returns-in-Some t c =
     let operator = sym c.in-Some.is ∙ c.update_operator.ensures ∙ ap (λ n. slice_get update_operators n) c.word_at.ensures in
     let argument = target (shape_at c.args.fields.now 2) in
     on_ok _ _ _
-      (λ h. subst (λ o. Adds (two (updated (flag_of (part c.args.fields.now 1))) o argument) bare c.args.tokens.now c.print_update_by.new.tokens) operator
-        (subst (λ (b : Bool). Adds (two (updated b) (Some c.in-Some.operator) argument) bare c.args.tokens.now c.print_update_by.new.tokens) c.flag_at.ensures h))
-      c.print_update_by.ensures
+    (λ h. subst (λ o. Adds (two (updated (flag_of (part c.args.fields.now 1))) o argument) bare c.args.tokens.now c.print_update_by.new.tokens) operator
+    (subst (λ (b : Bool). Adds (two (updated b) (Some c.in-Some.operator) argument) bare c.args.tokens.now c.print_update_by.new.tokens) c.flag_at.ensures h))
+    c.print_update_by.ensures
 
 pub print_update-returns-in-None : goal.print_update-returns-in-None
 unfolding shape_from
@@ -135,21 +135,21 @@ print_update-returns-in-None t c =
 pub print_prefix-returns : goal.print_prefix-returns
 print_prefix-returns t c =
     on_ok _ _ _
-      (prefix_row c.args.operator (shape_at c.args.fields.now 2) _ c.args.tokens.now c.push.new.self c.print_at.new.tokens c.update_token.ensures c.in_ok-push.ensures)
-      c.print_at.ensures
+    (prefix_row c.args.operator (shape_at c.args.fields.now 2) _ c.args.tokens.now c.push.new.self c.print_at.new.tokens c.update_token.ensures c.in_ok-push.ensures)
+    c.print_at.ensures
 
 pub print_postfix-returns : goal.print_postfix-returns
 print_postfix-returns t c =
     on_ok _ _ _
-      (postfix_row c.args.operator (shape_at c.args.fields.now 2) _ c.args.tokens.now c.print_at.new.tokens c.push.new.self c.update_token.ensures c.in_ok-print_at.ensures)
-      c.push.ensures
+    (postfix_row c.args.operator (shape_at c.args.fields.now 2) _ c.args.tokens.now c.print_at.new.tokens c.push.new.self c.update_token.ensures c.in_ok-print_at.ensures)
+    c.push.ensures
 
 pub print_binary-returns-in-Some : goal.print_binary-returns-in-Some
 unfolding shape_from
 print_binary-returns-in-Some t c =
     let operator = sym c.in-Some.is ∙ c.binary_operator.ensures ∙ ap (λ n. slice_get binary_operators n) c.word_at.ensures in
     subst (λ o. OnOk c.print_binary_by.result (Adds (three (λ u x y. Infix (Binary u) x y) o (shape_at c.args.fields.now 0) (shape_at c.args.fields.now 2)) bare c.args.tokens.now c.print_binary_by.new.tokens))
-      operator c.print_binary_by.ensures
+    operator c.print_binary_by.ensures
 
 pub print_binary-returns-in-None : goal.print_binary-returns-in-None
 unfolding shape_from
@@ -162,7 +162,7 @@ unfolding shape_from
 print_logical-returns-in-Some t c =
     let operator = sym c.in-Some.is ∙ c.logical_operator.ensures ∙ ap (λ n. slice_get logical_operators n) c.word_at.ensures in
     subst (λ o. OnOk c.print_logical_by.result (Adds (three (λ u x y. Infix (Logical u) x y) o (shape_at c.args.fields.now 0) (shape_at c.args.fields.now 2)) bare c.args.tokens.now c.print_logical_by.new.tokens))
-      operator c.print_logical_by.ensures
+    operator c.print_logical_by.ensures
 
 pub print_logical-returns-in-None : goal.print_logical-returns-in-None
 unfolding shape_from
@@ -175,7 +175,7 @@ unfolding shape_from
 print_assignment-returns-in-Some t c =
     let operator = sym c.in-Some.is ∙ c.assignment_operator.ensures ∙ ap (λ n. slice_get assignment_operators n) c.word_at.ensures in
     subst (λ o. OnOk c.print_assignment_by.result (Adds (three Assign o (target (shape_at c.args.fields.now 1)) (shape_at c.args.fields.now 2)) bare c.args.tokens.now c.print_assignment_by.new.tokens))
-      operator c.print_assignment_by.ensures
+    operator c.print_assignment_by.ensures
 
 pub print_assignment-returns-in-None : goal.print_assignment-returns-in-None
 unfolding shape_from
@@ -186,5 +186,5 @@ print_assignment-returns-in-None t c =
 pub print_assignment_by-returns : goal.print_assignment_by-returns
 print_assignment_by-returns t c =
     on_ok _ _ _
-      (assign_row c.args.operator (shape_at c.args.fields.now 1) (shape_at c.args.fields.now 2) _ c.args.tokens.now c.print_between.new.tokens c.assignment_token.ensures)
-      c.print_between.ensures
+    (assign_row c.args.operator (shape_at c.args.fields.now 1) (shape_at c.args.fields.now 2) _ c.args.tokens.now c.print_between.new.tokens c.assignment_token.ensures)
+    c.print_between.ensures

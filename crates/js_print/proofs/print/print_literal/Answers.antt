@@ -10,5 +10,5 @@ pub returns : goal.returns
 unfolding shape_from
 returns c =
     on_ok _ _ _
-      (on_map One (literal_operand c.args.fields.now) (λ o. c.print_operand.new.tokens ≡ c.args.tokens.now ++ alone o) (λ s. c.print_operand.new.tokens ≡ c.args.tokens.now ++ bare s) (λ o h. h))
-      c.print_operand.ensures
+    (on_map One (literal_operand c.args.fields.now) (λ o. c.print_operand.new.tokens ≡ c.args.tokens.now ++ alone o) (λ s. c.print_operand.new.tokens ≡ c.args.tokens.now ++ bare s) (λ o h. h))
+    c.print_operand.ensures

@@ -73,7 +73,7 @@ pub are_printable-loop-i-preserved : goal.are_printable-loop-i-preserved
 are_printable-loop-i-preserved t c = tests_pass _ _ _ (c.loop-i.invariant ∙ tests_go_on c.args.nodes.now c.loop-i.i c.in-Some.item.now c.len-i-end.ensures.shaped c.in-Some.ensures.item) (sym c.is_printable_item.ensures ∙ c.if-not-is_printable_item.false)
 
 pub are_printable-returns-after-loop-i : goal.are_printable-returns-after-loop-i
-are_printable-returns-after-loop-i t c = 
+are_printable-returns-after-loop-i t c =
     let over : parts_len c.args.nodes.now ≤ c.loop-i.i = rw (← c.len-i-end.ensures.len) c.loop-i-test.false in
     sym (c.loop-i.invariant ∙ tests_end c.args.nodes.now c.loop-i.i (past_len c.args.nodes.now c.loop-i.i over))
 
