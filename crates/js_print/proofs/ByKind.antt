@@ -1,5 +1,5 @@
 -- What the shape of a node is like, by its kind.
-use Rattle.std.proofs.Common.{◌≡◌, ℕ, zero, suc, ◌<◌, ◌≤◌, Bool, true, false, not, ◌&&◌, ◌==◌, Option, Some, None, IfSome, option_map, slice_get, inl, inr, if◌then◌else◌, refl, sym, ap, subst, ◌∙◌, arith}
+use Rattle.std.proofs.Common.{◌≡◌, ℕ, zero, suc, ◌≤◌, Bool, true, false, not, ◌&&◌, Option, Some, None, IfSome, option_map, slice_get, if◌then◌else◌, refl, sym, ap, subst, ◌∙◌, arith}
 use Rattle.std.specs.Prelude.{nat_eq, nat_le}
 use Rattle.std.proofs.lemmas.Bool.{le-leb}
 use Rattle.std.proofs.lemmas.Bool.Decides.{nat_tests}
@@ -8,13 +8,12 @@ use Rattle.syntax_lex.specs.declared.operator.logical.LogicalOperator.{LogicalOp
 use Rattle.syntax_lex.specs.declared.operator.update.UpdateOperator.{UpdateOperator}
 use Rattle.tree_nodes.proofs.EachKind.{kind_told}
 use Rattle.tree_nodes.specs.Kinds.{is_kind, kind_number}
-use Rattle.tree_nodes.specs.Literals.{case_of}
 use Rattle.tree_nodes.specs.Tree.{Parts, Tree, flag_of, part, text_of, word_of}
 use Rattle.tree_nodes.specs.declared.kind.Kind.{Kind}
 use Rattle.tree_nodes.specs.declared.kind.Kind.TheVariants.{ArrayExpression, AssignmentExpression, BinaryExpression, CallExpression, ConditionalExpression, Identifier, Literal, LogicalExpression, MemberExpression, NewExpression, SequenceExpression, ThisExpression, UnaryExpression, UpdateExpression}
 use Rattle.js_grammar.specs.Expressions.{assignment_operators, binary_operators, in_sequence, literal_operand, logical_operators, plain_name, shape_at, shape_from, shape_of, shapes_at, target, three, two, unary_operators, unreserved, update_operators, updated}
 use Rattle.js_grammar.specs.Printed.{is_coalesce, is_over_call, level}
-use Rattle.js_grammar.specs.Shapes.{Array, Assign, Binary, Call, Conditional, Index, Infix, Logical, Member, New, One, Operator, Postfix, Prefix, Sequence, Shape, Shapes, Unary, also, is_target, none}
+use Rattle.js_grammar.specs.Shapes.{Array, Assign, Binary, Call, Conditional, Index, Infix, Logical, Member, New, One, Sequence, Shape, Shapes, Unary, also, none}
 use Rattle.js_print.proofs.PartsAt.{shape_of_node}
 use Rattle.js_print.specs.Kinds.{binary_level, is_member, level_by_kind, logical_level, of_kind}
 

@@ -1,5 +1,5 @@
 -- What is printed at the first level stands bare, and the laws on printed tokens hold of it.
-use Rattle.std.proofs.Common.{◌≡◌, ℕ, ◌≤◌, Bool, true, false, List, [], ◌∷◌, ◌++◌, Option, Some, None, IfSome, if◌then◌else◌, refl, ap, sym, ◌∙◌, subst, arith, true≢false}
+use Rattle.std.proofs.Common.{◌≡◌, Bool, true, false, List, [], ◌∷◌, ◌++◌, Option, Some, None, IfSome, if◌then◌else◌, refl, ap, sym, ◌∙◌, subst, arith, true≢false}
 use Rattle.std.specs.Prelude.{IsSomeAnd, is_some, nat_le}
 use Rattle.std.proofs.lemmas.Bool.{le-leb}
 use Rattle.js_grammar.specs.Derives.{Derives}

@@ -1,5 +1,5 @@
 -- What printing adds for each kind of expression, from what is added for its parts. The lists of tokens are those before each step, and after the last one.
-use Rattle.std.proofs.Common.{◌≡◌, ℕ, suc, Bool, true, false, Result, Ok, Err, OnOk, List, [], ◌∷◌, ◌++◌, Option, Some, None, IfSome, option_map, append_assoc, append-nil, refl, sym, ap, ◌∙◌, subst, if◌then◌else◌}
+use Rattle.std.proofs.Common.{◌≡◌, ℕ, Bool, true, false, Result, Ok, Err, OnOk, List, [], ◌∷◌, ◌++◌, Option, Some, None, IfSome, option_map, append_assoc, refl, sym, ap, ◌∙◌, subst, if◌then◌else◌}
 use Rattle.syntax_lex.specs.declared.operator.assignment.AssignmentOperator.{AssignmentOperator}
 use Rattle.syntax_lex.specs.declared.operator.binary.BinaryOperator.{BinaryOperator}
 use Rattle.syntax_lex.specs.declared.operator.binary.BinaryOperator.TheVariants.{Exponential}
@@ -9,9 +9,9 @@ use Rattle.syntax_lex.specs.declared.operator.unary.UnaryOperator.{UnaryOperator
 use Rattle.syntax_lex.specs.declared.operator.update.UpdateOperator.{UpdateOperator}
 use Rattle.std.specs.Prelude.{nat_le}
 use Rattle.tree_nodes.specs.Tree.{Text}
-use Rattle.js_grammar.specs.Expressions.{in_sequence, target, three, two, updated}
+use Rattle.js_grammar.specs.Expressions.{in_sequence, target, three, two}
 use Rattle.js_grammar.specs.Printed.{bare, is_coalesce, left_level, level, parts, printed, right_level}
-use Rattle.js_grammar.specs.Shapes.{Array, Assign, Binary, Call, Conditional, Index, Infix, Logical, Member, New, Operator, Postfix, Prefix, Sequence, Shape, Shapes, Unary, also, is_target, none}
+use Rattle.js_grammar.specs.Shapes.{Array, Assign, Binary, Call, Conditional, Index, Infix, Logical, Member, New, Postfix, Prefix, Shape, Shapes, Unary, also, is_target, none}
 use Rattle.js_grammar.specs.Tokens.{CLOSE, CLOSE_SQUARE, COLON, DOT, NEW, OPEN, OPEN_SQUARE, QUESTION, Token, Word, assign_token, infix_token, unary_token, update_token}
 use Rattle.js_print.specs.Adds.{Adds, arguments, between, binary_left, enclosed, logical_left, pair}
 

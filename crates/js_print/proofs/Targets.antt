@@ -1,5 +1,5 @@
 -- Which expressions may be assigned to, by their kind.
-use Rattle.std.proofs.Common.{◌≡◌, ℕ, Bool, true, false, ◌&&◌, Option, Some, None, IfSome, option_map, slice_get, if◌then◌else◌, refl, sym, ap, ◌∙◌}
+use Rattle.std.proofs.Common.{◌≡◌, Bool, true, false, ◌&&◌, Option, Some, None, IfSome, option_map, slice_get, if◌then◌else◌, refl, sym, ap, ◌∙◌}
 use Rattle.std.specs.Prelude.{is_some}
 use Rattle.syntax_lex.specs.Keyword.{is_reserved_keyword}
 use Rattle.syntax_lex.specs.declared.operator.update.UpdateOperator.{UpdateOperator}
@@ -9,8 +9,8 @@ use Rattle.tree_nodes.specs.declared.kind.Kind.{Kind}
 use Rattle.tree_nodes.specs.declared.kind.Kind.TheVariants.{ArrayExpression, AssignmentExpression, BinaryExpression, CallExpression, ConditionalExpression, Identifier, Literal, LogicalExpression, MemberExpression, NewExpression, SequenceExpression, ThisExpression, UnaryExpression, UpdateExpression}
 use Rattle.tree_nodes.specs.declared.literals.LiteralCase.{LiteralCase}
 use Rattle.tree_nodes.specs.declared.literals.LiteralCase.TheVariants as case
-use Rattle.js_grammar.specs.Expressions.{assignment_operators, binary_operators, logical_operators, operand_by_case, plain_name, shape_at, shape_from, shapes_at, target, three, two, unary_operators, unreserved, update_operators, updated, value_operand}
-use Rattle.js_grammar.specs.Shapes.{Array, Assign, Binary, Call, Conditional, Index, Infix, Logical, Member, Name, New, One, Operand, Shape, Unary, is_target}
+use Rattle.js_grammar.specs.Expressions.{assignment_operators, binary_operators, logical_operators, operand_by_case, plain_name, shape_at, shape_from, shapes_at, target, two, unary_operators, unreserved, update_operators, updated, value_operand}
+use Rattle.js_grammar.specs.Shapes.{Array, Assign, Binary, Call, Conditional, Index, Infix, Logical, Member, Name, New, One, Shape, Unary, is_target}
 use Rattle.js_print.specs.Kinds.{of_kind, target_kind}
 use Rattle.js_print.proofs.ByKind.{of_either, of_map, of_sequence, of_three, of_two}
 

@@ -1,7 +1,7 @@
-use Rattle.std.proofs.Common.{◌≡◌, ◌≤◌, None, Some, IfSome, OnOk, Bool, true, false, ◌+◌, ◌++◌, slice_get, if◌then◌else◌, sym, ap, ◌∙◌, subst}
+use Rattle.std.proofs.Common.{◌≡◌, ◌≤◌, Some, OnOk, Bool, true, false, ◌++◌, slice_get, sym, ap, ◌∙◌, subst}
 use Rattle.tree_nodes.proofs.Lists.{past_items, past_len}
 use Rattle.tree_nodes.specs.Look.{parts_len}
-use Rattle.tree_nodes.specs.Tree.{Tree, flag_of, part, word_of}
+use Rattle.tree_nodes.specs.Tree.{Tree, flag_of, part}
 use Rattle.js_grammar.specs.Expressions.{assignment_operators, binary_operators, logical_operators, plain_name, shape_at, shape_from, shapes_at, target, three, two, unary_operators, update_operators, updated}
 use Rattle.js_grammar.specs.Printed.{bare, parts, printed}
 use Rattle.js_grammar.specs.Shapes.{Assign, Binary, Index, Infix, Logical, Member, Unary}
