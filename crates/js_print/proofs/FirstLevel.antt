@@ -48,3 +48,6 @@ no_other = of_printed AreNoOther (λ s f other d. one_shape (printed 1 s) other 
 
 pub are_fewest : (o : Option Shape) (ts : List Token) → is_some o ≡ true → IfSome o IsSound → Adds o bare [] ts → IsSomeAnd o (λ s. AreFewest ts s)
 are_fewest = of_printed AreFewest (λ s f. fewest s)
+
+pub is_printed : (o : Option Shape) (ts : List Token) → is_some o ≡ true → IfSome o IsSound → Adds o bare [] ts → IsSomeAnd o (λ s. ts ≡ printed 1 s)
+is_printed = of_printed (λ ts s. ts ≡ printed 1 s) (λ s f. refl)

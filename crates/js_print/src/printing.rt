@@ -4,6 +4,7 @@ ghost use Rattle.std.specs.Prelude.{◌≡◌, IfErr, IfOk, IsSomeAnd};
 ghost use Rattle.js_grammar.specs.Derives.{Derives};
 ghost use Rattle.js_grammar.specs.Expressions.{IsPrintable, shape_of};
 ghost use Rattle.js_grammar.specs.Laws.{AreFewest, AreNoOther};
+ghost use Rattle.js_grammar.specs.Printed.{printed};
 ghost use Rattle.js_print.specs.PrintError.{Says};
 
 use crate::print::print_bare;
@@ -37,11 +38,13 @@ impl From<AllocError> for PrintError {
 /// The tokens of an expression: they are that expression by the grammar (`Derives`), no other one, and as few as
 /// can be. `NotPrintable` comes exactly where it can't be printed.
 ///
-/// At a `new` whose callee is a chain of members over a call the parentheses are around the whole callee.
+/// They are the printed ones (`printed`): at a `new` whose callee is a chain of members over a call, where several lists are
+/// the shortest, the parentheses are around the whole callee.
 pub fn print_tokens(alloc: Global, node: &Node) -> Result<Tokens, PrintError>
     ensures derives { IfOk result (λ ts. IsSomeAnd (shape_of node.now) (λ s. Derives 1 ts s)) }
     ensures one_reading { IfOk result (λ ts. IsSomeAnd (shape_of node.now) (λ s. AreNoOther ts s)) }
     ensures fewest { IfOk result (λ ts. IsSomeAnd (shape_of node.now) (λ s. AreFewest ts s)) }
+    ensures as_printed { IfOk result (λ ts. IsSomeAnd (shape_of node.now) (λ s. ts ≡ printed 1 s)) }
     ensures refused { IfErr result (λ e. Says e (IsPrintable node.now)) }
 {
     if !is_printable(node) {

@@ -4,7 +4,7 @@ use Rattle.js_grammar.specs.Expressions.{shape_of}
 use Rattle.js_grammar.specs.Printed.{bare}
 use Rattle.js_grammar.proofs.SoundShapes.{shapes_sound}
 use Rattle.js_print.specs.Adds.{Adds}
-use Rattle.js_print.proofs.FirstLevel.{are_fewest, derive, no_other}
+use Rattle.js_print.proofs.FirstLevel.{are_fewest, derive, is_printed, no_other}
 use Rattle.js_print.proofs.printing.print_tokens.Goals as goal
 
 has_shape : (c : goal.In_ok-print_bare) → is_some (shape_of c.args.node.now) ≡ true
@@ -21,3 +21,6 @@ returns-clause-one_reading c = no_other (shape_of c.args.node.now) c.print_bare.
 
 pub returns-clause-fewest : goal.returns-clause-fewest
 returns-clause-fewest c = are_fewest (shape_of c.args.node.now) c.print_bare.new.tokens (has_shape c) (shapes_sound c.args.node.now) (added c)
+
+pub returns-clause-as_printed : goal.returns-clause-as_printed
+returns-clause-as_printed c = is_printed (shape_of c.args.node.now) c.print_bare.new.tokens (has_shape c) (shapes_sound c.args.node.now) (added c)
