@@ -1,0 +1,4 @@
+pub mod Views
+pub mod Kinds
+pub mod Adds
+pub mod PrintError
