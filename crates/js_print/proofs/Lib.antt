@@ -6,3 +6,4 @@ pub mod ByKind
 pub mod Shaped
 pub mod Targets
 pub mod FieldsAlone
+pub mod JoinedTexts

@@ -1,5 +1,5 @@
 -- What printing adds to the tokens so far.
-use Rattle.std.specs.Prelude.{◌≡◌, ℕ, zero, suc, Bool, List, [], ◌∷◌, ◌++◌, Option, IfSome, if◌then◌else◌}
+use Rattle.std.specs.Prelude.{◌≡◌, ℕ, zero, suc, Bool, List, [], ◌∷◌, ◌++◌, Option, IfSome, codes, if◌then◌else◌}
 use Rattle.syntax_lex.specs.declared.operator.binary.BinaryOperator.{BinaryOperator}
 use Rattle.syntax_lex.specs.declared.operator.binary.BinaryOperator.TheVariants.{Exponential}
 use Rattle.syntax_lex.specs.declared.operator.logical.LogicalOperator.{LogicalOperator}
@@ -46,3 +46,8 @@ abbrev pub logical_left : LogicalOperator → Bool → ℕ
 logical_left Or after_coalesce = 7
 logical_left And after_coalesce = 8
 logical_left Coalesce after_coalesce = if after_coalesce then 6 else 9
+
+-- what stands before the spelling of the i-th token
+abbrev pub space_before : ℕ → List ℕ
+space_before zero = []
+space_before (suc i) = codes " "

@@ -10,7 +10,7 @@ use Rattle.tree_nodes.specs.Tree.{Parts, Tree, flag_of, many, part, word_of}
 use Rattle.tree_nodes.specs.declared.kind.Kind.{Kind}
 use Rattle.tree_nodes.specs.declared.kind.Kind.TheVariants.{ArrayExpression, AssignmentExpression, BinaryExpression, CallExpression, ConditionalExpression, Identifier, Literal, LogicalExpression, MemberExpression, NewExpression, SequenceExpression, ThisExpression, UnaryExpression, UpdateExpression}
 use Rattle.js_grammar.specs.Expressions.{binary_operators, logical_operators, plain_name, shape_at, shape_from, shape_of, shapes_at}
-use Rattle.js_grammar.specs.Shapes.{Shape}
+use Rattle.js_grammar.specs.Shapes.{Index, Member, Shape}
 
 -- the shape of a node of this kind with these fields
 abbrev pub of_kind : Kind → Parts → Option Shape
@@ -61,3 +61,8 @@ has_property fields = if flag_of (part fields 2) then is_some (shape_at fields 1
 abbrev pub are_two : Parts → Bool
 are_two (many items more) = nat_le 2 (parts_len items)
 are_two _ = false
+
+abbrev pub is_member : Shape → Bool
+is_member (Member s w) = true
+is_member (Index s x) = true
+is_member _ = false

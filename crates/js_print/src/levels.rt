@@ -2,12 +2,12 @@
 //!
 //! What is answered of an expression that can't be printed means nothing.
 
-ghost use Rattle.std.specs.Prelude.{◌≡◌, ◌≤◌, IfSome, nat_le};
+ghost use Rattle.std.specs.Prelude.{◌≡◌, ◌≤◌, ◌&&◌, IfSome, nat_le};
 ghost use Rattle.js_grammar.specs.Expressions.{shape_at, shape_of};
 ghost use Rattle.js_grammar.specs.Printed as spec;
 ghost use Rattle.js_grammar.specs.Shapes.{Binary, Logical};
 ghost use Rattle.js_grammar.specs.Shapes as shapes;
-ghost use Rattle.js_print.specs.Kinds.{level_by_kind};
+ghost use Rattle.js_print.specs.Kinds.{is_member, level_by_kind};
 ghost use Rattle.tree_nodes.specs.Views.{part_of};
 ghost use Rattle.tree_nodes.specs.declared.kind.Kind.TheVariants.{BinaryExpression, LogicalExpression};
 
@@ -114,8 +114,31 @@ pub(crate) fn stands_bare(node: &Node, level: u8) -> bool
     requires { level ≤ 22 }
     ensures { IfSome (shape_of node.now) (λ s. result ≡ nat_le level (spec.level s)) }
 {
-    level <= level_of(node.kind, &node.fields)
-        && !(level == 22 && node.kind.is(Kind::MemberExpression) && is_over_call(node))
+    if level == 22 {
+        stands_bare_as_callee(node)
+    } else {
+        level <= level_of(node.kind, &node.fields)
+    }
+}
+
+// The same at the level of what `new` calls, the one at which members over a call differ from others.
+fn stands_bare_as_callee(node: &Node) -> bool
+    ensures { IfSome (shape_of node.now) (λ s. result ≡ nat_le 22 (spec.level s)) }
+{
+    if level_of(node.kind, &node.fields) < 22 {
+        return false;
+    }
+    !is_member_over_call(node)
+}
+
+fn is_member_over_call(node: &Node) -> bool
+    ensures { IfSome (shape_of node.now) (λ s. result ≡ (is_member s && spec.is_over_call s)) }
+{
+    if node.kind.is(Kind::MemberExpression) {
+        is_over_call(node)
+    } else {
+        false
+    }
 }
 
 // Whether the first field is a row of `??`.

@@ -74,34 +74,41 @@ const UNARY_OPERATORS: [UnaryOperator; 7] = [
 
 const UPDATE_OPERATORS: [UpdateOperator; 2] = [UpdateOperator::Increment, UpdateOperator::Decrement];
 
+// The operator of a word's number.
+fn operator_at<T: Copy>(operators: &[T], word: u8) -> Option<T>
+    ensures { result ≡ slice_get operators.now word }
+{
+    operators.get(word as usize).copied()
+}
+
 pub(crate) fn assignment_operator(word: u8) -> Option<AssignmentOperator>
     ensures { result ≡ slice_get spec.assignment_operators word }
 {
-    ASSIGNMENT_OPERATORS.get(word as usize).copied()
+    operator_at(&ASSIGNMENT_OPERATORS, word)
 }
 
 pub(crate) fn binary_operator(word: u8) -> Option<BinaryOperator>
     ensures { result ≡ slice_get spec.binary_operators word }
 {
-    BINARY_OPERATORS.get(word as usize).copied()
+    operator_at(&BINARY_OPERATORS, word)
 }
 
 pub(crate) fn logical_operator(word: u8) -> Option<LogicalOperator>
     ensures { result ≡ slice_get spec.logical_operators word }
 {
-    LOGICAL_OPERATORS.get(word as usize).copied()
+    operator_at(&LOGICAL_OPERATORS, word)
 }
 
 pub(crate) fn unary_operator(word: u8) -> Option<UnaryOperator>
     ensures { result ≡ slice_get spec.unary_operators word }
 {
-    UNARY_OPERATORS.get(word as usize).copied()
+    operator_at(&UNARY_OPERATORS, word)
 }
 
 pub(crate) fn update_operator(word: u8) -> Option<UpdateOperator>
     ensures { result ≡ slice_get spec.update_operators word }
 {
-    UPDATE_OPERATORS.get(word as usize).copied()
+    operator_at(&UPDATE_OPERATORS, word)
 }
 
 // The numbers of the first punctuators of each kind of operator.

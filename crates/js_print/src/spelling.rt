@@ -4,9 +4,10 @@ ghost use Rattle.std.specs.Prelude.{◌≡◌, ◌++◌, ◌∷◌, IfOk, OnOk, 
 ghost use Rattle.js_grammar.specs.Tokens.{puncts, spelling, text_of_tokens};
 ghost use Rattle.std.specs.Prelude.{[], get_or};
 ghost use Rattle.json_text.specs.Strings.{quoted_units};
+ghost use Rattle.js_print.specs.Adds.{space_before};
 ghost use Rattle.js_print.specs.Views.{token_of};
 
-use crate::token::{PUNCTS, Token};
+use crate::token::{PUNCTS, Token, puncts_are_those_of_the_grammar};
 use crate::tokens::Tokens;
 use oxc_estree::{CompactSerializer, ESTree};
 use oxc_str::JSText;
@@ -21,12 +22,19 @@ pub fn tokens_text(alloc: Global, tokens: &Tokens) -> Result<String, AllocError>
     let mut text = String::new(alloc);
     for i in 0..tokens.len() {
         let Some(token) = tokens.get(i) else { break };
-        if i > 0 {
-            text.push_str(" ")?;
-        }
-        push_spelling(alloc, token, &mut text)?;
+        push_token(alloc, i, token, &mut text)?;
     }
     Ok(text)
+}
+
+// Appends the i-th token, with a space before it where it isn't the first.
+fn push_token(alloc: Global, i: usize, token: &Token, text: &mut String) -> Result<(), AllocError>
+    ensures { OnOk result (string_bytes text.new ≡ string_bytes text.old ++ (space_before i ++ spelling (token_of token.now))) }
+{
+    if i > 0 {
+        text.push_str(" ")?;
+    }
+    push_spelling(alloc, token, text)
 }
 
 #[tactic(auto, unfolding(js_grammar::specs::Tokens::spelling))]
@@ -42,11 +50,18 @@ fn push_spelling(alloc: Global, token: &Token, text: &mut String) -> Result<(), 
 }
 
 // How a punctuator is written.
-#[tactic(auto, unfolding(js_grammar::specs::Tokens::puncts))]
 fn punct_text(number: u8) -> &'static str
     ensures { result.now ≡ get_or puncts number [] }
 {
-    match PUNCTS.get(number as usize) {
+    puncts_are_those_of_the_grammar();
+    text_at(&PUNCTS, number)
+}
+
+// The text of a number in a list.
+fn text_at(texts: &[&'static str], number: u8) -> &'static str
+    ensures { result.now ≡ get_or (map (λ text. text.now) texts.now) number [] }
+{
+    match texts.get(number as usize) {
         Some(text) => text,
         None => "",
     }
