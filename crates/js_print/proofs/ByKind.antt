@@ -1,5 +1,5 @@
 -- What the shape of a node is like, by its kind.
-use Rattle.std.proofs.Common.{◌≡◌, ℕ, zero, suc, ◌<◌, ◌≤◌, Bool, true, false, not, ◌&&◌, ◌==◌, Option, Some, None, IfSome, option_map, slice_get, inl, inr, if◌then◌else◌, refl, sym, ap, subst, ◌∙◌, arith}
+use Rattle.std.proofs.Common.{◌≡◌, ℕ, zero, suc, ◌≤◌, Bool, true, false, not, ◌&&◌, Option, Some, None, IfSome, option_map, slice_get, if◌then◌else◌, refl, sym, ap, subst, ◌∙◌, arith}
 use Rattle.std.specs.Prelude.{nat_eq, nat_le}
 use Rattle.std.proofs.lemmas.Bool.{le-leb}
 use Rattle.std.proofs.lemmas.Bool.Decides.{nat_tests}
@@ -8,13 +8,12 @@ use Rattle.syntax_lex.specs.declared.operator.logical.LogicalOperator.{LogicalOp
 use Rattle.syntax_lex.specs.declared.operator.update.UpdateOperator.{UpdateOperator}
 use Rattle.tree_nodes.proofs.EachKind.{kind_told}
 use Rattle.tree_nodes.specs.Kinds.{is_kind, kind_number}
-use Rattle.tree_nodes.specs.Literals.{case_of}
 use Rattle.tree_nodes.specs.Tree.{Parts, Tree, flag_of, part, text_of, word_of}
 use Rattle.tree_nodes.specs.declared.kind.Kind.{Kind}
 use Rattle.tree_nodes.specs.declared.kind.Kind.TheVariants.{ArrayExpression, AssignmentExpression, BinaryExpression, CallExpression, ConditionalExpression, Identifier, Literal, LogicalExpression, MemberExpression, NewExpression, SequenceExpression, ThisExpression, UnaryExpression, UpdateExpression}
 use Rattle.js_grammar.specs.Expressions.{assignment_operators, binary_operators, in_sequence, literal_operand, logical_operators, plain_name, shape_at, shape_from, shape_of, shapes_at, target, three, two, unary_operators, unreserved, update_operators, updated}
 use Rattle.js_grammar.specs.Printed.{is_coalesce, is_over_call, level}
-use Rattle.js_grammar.specs.Shapes.{Array, Assign, Binary, Call, Conditional, Index, Infix, Logical, Member, New, One, Operator, Postfix, Prefix, Sequence, Shape, Shapes, Unary, also, is_target, none}
+use Rattle.js_grammar.specs.Shapes.{Array, Assign, Binary, Call, Conditional, Index, Infix, Logical, Member, New, One, Sequence, Shape, Shapes, Unary, also, none}
 use Rattle.js_print.proofs.PartsAt.{shape_of_node}
 use Rattle.js_print.specs.Kinds.{binary_level, is_member, level_by_kind, logical_level, of_kind}
 
@@ -101,9 +100,9 @@ told MemberExpression fields =
     let index = two Index (shape_at fields 0) (shape_at fields 1) in
     let name = two Member (shape_at fields 0) (plain_name (part fields 1)) in
     of_either (Told 22 true false) (flag_of (part fields 3)) None (if flag_of (part fields 2) then index else name) tt
-      (of_either (Told 22 true false) (flag_of (part fields 2)) index name
-        (of_two Index (Told 22 true false) (shape_at fields 0) (shape_at fields 1) (λ s x. record { level_is = refl; member_is = refl; logical_is = refl }))
-        (of_two Member (Told 22 true false) (shape_at fields 0) (plain_name (part fields 1)) (λ s w. record { level_is = refl; member_is = refl; logical_is = refl })))
+    (of_either (Told 22 true false) (flag_of (part fields 2)) index name
+    (of_two Index (Told 22 true false) (shape_at fields 0) (shape_at fields 1) (λ s x. record { level_is = refl; member_is = refl; logical_is = refl }))
+    (of_two Member (Told 22 true false) (shape_at fields 0) (plain_name (part fields 1)) (λ s w. record { level_is = refl; member_is = refl; logical_is = refl })))
 told SequenceExpression fields = of_sequence (Told 1 false false) (shapes_at fields 0) (λ x ss. record { level_is = refl; member_is = refl; logical_is = refl })
 told _ fields = tt
 
@@ -132,9 +131,9 @@ member_is_over fields r h =
     let index = two Index (shape_at fields 0) (shape_at fields 1) in
     let name = two Member (shape_at fields 0) (plain_name (part fields 1)) in
     of_either (IsOver r) (flag_of (part fields 3)) None (if flag_of (part fields 2) then index else name) tt
-      (of_either (IsOver r) (flag_of (part fields 2)) index name
-        (over_object Index r (shape_at fields 0) (shape_at fields 1) (λ s x. refl) h)
-        (over_object Member r (shape_at fields 0) (plain_name (part fields 1)) (λ s w. refl) h))
+    (of_either (IsOver r) (flag_of (part fields 2)) index name
+    (over_object Index r (shape_at fields 0) (shape_at fields 1) (λ s x. refl) h)
+    (over_object Member r (shape_at fields 0) (plain_name (part fields 1)) (λ s w. refl) h))
 
 updated_is_not_over : (b : Bool) (o : UpdateOperator) (s : Shape) → IsOver false (updated b o s)
 updated_is_not_over true o s = refl
@@ -149,10 +148,10 @@ other_is_not_over ArrayExpression fields h g = of_map Array (IsOver false) (shap
 other_is_not_over UnaryExpression fields h g =
     let argument = two Unary (slice_get unary_operators (word_of (part fields 0))) (shape_at fields 2) in
     of_either (IsOver false) (flag_of (part fields 1)) argument None
-      (of_two Unary (IsOver false) (slice_get unary_operators (word_of (part fields 0))) (shape_at fields 2) (λ o s. refl)) tt
+    (of_two Unary (IsOver false) (slice_get unary_operators (word_of (part fields 0))) (shape_at fields 2) (λ o s. refl)) tt
 other_is_not_over UpdateExpression fields h g =
     of_two (updated (flag_of (part fields 1))) (IsOver false) (slice_get update_operators (word_of (part fields 0))) (target (shape_at fields 2))
-      (updated_is_not_over (flag_of (part fields 1)))
+    (updated_is_not_over (flag_of (part fields 1)))
 other_is_not_over BinaryExpression fields h g =
     of_three (λ o x y. Infix (Binary o) x y) (IsOver false) (slice_get binary_operators (word_of (part fields 1))) (shape_at fields 0) (shape_at fields 2) (λ o x y. refl)
 other_is_not_over LogicalExpression fields h g =

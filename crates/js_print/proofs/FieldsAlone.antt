@@ -1,5 +1,5 @@
 -- A field that is no node has no shape, and is no name.
-use Rattle.std.proofs.Common.{◌≡◌, Option, Some, None, refl}
+use Rattle.std.proofs.Common.{◌≡◌, None, refl}
 use Rattle.js_grammar.specs.Expressions.{shape_at}
 use Rattle.tree_nodes.specs.Views.{part_of}
 use Rattle.tree_nodes.specs.declared.node.Field.{Field}

@@ -6,4 +6,5 @@ pub mod ByKind
 pub mod Shaped
 pub mod Targets
 pub mod FieldsAlone
+pub mod FirstLevel
 pub mod JoinedTexts

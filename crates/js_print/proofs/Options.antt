@@ -1,5 +1,5 @@
 -- Whether something can be made of options.
-use Rattle.std.proofs.Common.{◌≡◌, Bool, true, false, ◌&&◌, Option, Some, None, option_map, refl}
+use Rattle.std.proofs.Common.{◌≡◌, ◌&&◌, Option, Some, None, option_map, refl}
 use Rattle.std.specs.Prelude.{is_some}
 use Rattle.js_grammar.specs.Expressions.{three, two}
 

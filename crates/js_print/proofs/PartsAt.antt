@@ -1,8 +1,8 @@
 -- The shapes of the parts of a run, by the parts that stand there.
-use Rattle.std.proofs.Common.{◌≡◌, ℕ, zero, suc, ◌+◌, Bool, true, false, Option, Some, None, refl, sym, ap, ◌∙◌}
-use Rattle.tree_nodes.specs.Look.{part_at, past}
-use Rattle.tree_nodes.specs.Tree.{Parts, Tree, alone, atom, before, child, done, many}
-use Rattle.js_grammar.specs.Expressions.{shape_at, shape_from, shape_of, shapes_at, shapes_in, two}
+use Rattle.std.proofs.Common.{◌≡◌, ℕ, zero, suc, Option, Some, None, refl, sym, ap, ◌∙◌}
+use Rattle.tree_nodes.specs.Look.{part_at}
+use Rattle.tree_nodes.specs.Tree.{Parts, Tree, atom, before, child, done, many}
+use Rattle.js_grammar.specs.Expressions.{shape_at, shape_of, shapes_at, shapes_in, two}
 use Rattle.js_grammar.specs.Shapes.{Shape, Shapes, also, none}
 use Rattle.js_print.specs.Kinds.{of_kind}
 

@@ -1,14 +1,14 @@
 -- Lists of expressions, item by item.
-use Rattle.std.proofs.Common.{◌≡◌, ℕ, zero, suc, ◌+◌, Bool, true, false, ◌&&◌, List, [], ◌∷◌, ◌++◌, Option, Some, None, IfSome, append_assoc, append-nil, refl, sym, ap, ◌∙◌, subst, arith}
+use Rattle.std.proofs.Common.{◌≡◌, ℕ, zero, suc, ◌+◌, Bool, true, false, ◌&&◌, List, [], ◌++◌, Option, Some, None, IfSome, append_assoc, append-nil, refl, sym, ap, ◌∙◌, subst, arith}
 use Rattle.std.specs.Prelude.{IsSomeAnd, is_some}
 use Rattle.tree_nodes.specs.Look.{are_items, item_at, onto, past}
-use Rattle.tree_nodes.specs.Tree.{Parts, Tree, atom, before, child, done, empty, many}
+use Rattle.tree_nodes.specs.Tree.{Parts, Tree, done}
 use Rattle.tree_nodes.specs.Views.{item_of}
 use Rattle.tree_nodes.proofs.Lists.{past_item}
 use Rattle.js_grammar.specs.Expressions.{shape_at, shapes_in, two}
 use Rattle.js_grammar.specs.Printed.{parts, printed, with_comma}
 use Rattle.js_grammar.specs.Shapes.{Shape, Shapes, also, none}
-use Rattle.js_grammar.specs.Tokens.{COMMA, Token}
+use Rattle.js_grammar.specs.Tokens.{Token}
 use Rattle.js_print.specs.Adds.{separator}
 use Rattle.js_print.specs.Kinds.{item_shape}
 use Rattle.js_print.proofs.Options.{some_two}
@@ -80,7 +80,7 @@ pub list_ended : (nodes : Parts) (i : ℕ) (first now : List Token) → past i n
 list_ended nodes i first now e h =
     let over = ap shapes_in e ∙ none_left in
     all_done (shapes_in nodes) i first now
-      (subst (λ o. IfSome (shapes_in nodes) (λ ss. IsSomeAnd o (λ rest. now ++ following i rest ≡ first ++ parts ss))) over h)
+    (subst (λ o. IfSome (shapes_in nodes) (λ ss. IsSomeAnd o (λ rest. now ++ following i rest ≡ first ++ parts ss))) over h)
 
 -- ---- whether all have shapes
 

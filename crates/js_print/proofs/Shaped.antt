@@ -1,12 +1,11 @@
 -- Whether an expression has a shape, by its kind: what of its parts has to be there.
-use Rattle.std.proofs.Common.{◌≡◌, ℕ, zero, suc, ◌≤◌, Bool, true, false, not, ◌&&◌, Option, Some, None, IfSome, option_map, slice_get, if◌then◌else◌, refl, sym, ap, ◌∙◌, arith}
+use Rattle.std.proofs.Common.{◌≡◌, ℕ, suc, Bool, true, false, not, ◌&&◌, Option, Some, None, slice_get, if◌then◌else◌, refl, sym, ap, ◌∙◌, arith}
 use Rattle.std.specs.Prelude.{is_some, nat_le}
 use Rattle.std.proofs.lemmas.Bool.{le-leb}
 use Rattle.tree_nodes.specs.Look.{parts_len}
 use Rattle.tree_nodes.specs.Tree.{Parts, atom, child, done, flag_of, many, part, text_of, word_of}
-use Rattle.tree_nodes.specs.declared.kind.Kind.{Kind}
 use Rattle.tree_nodes.specs.declared.kind.Kind.TheVariants.{ArrayExpression, AssignmentExpression, BinaryExpression, CallExpression, ConditionalExpression, Identifier, Literal, LogicalExpression, MemberExpression, NewExpression, SequenceExpression, UnaryExpression, UpdateExpression}
-use Rattle.js_grammar.specs.Expressions.{assignment_operators, binary_operators, in_sequence, literal_operand, logical_operators, plain_name, shape_at, shape_from, shapes_at, shapes_in, target, three, two, unary_operators, unreserved, update_operators, updated}
+use Rattle.js_grammar.specs.Expressions.{assignment_operators, binary_operators, in_sequence, literal_operand, logical_operators, plain_name, shape_at, shape_from, shapes_at, shapes_in, target, two, unary_operators, unreserved, update_operators, updated}
 use Rattle.js_grammar.specs.Shapes.{Array, Assign, Binary, Call, Conditional, Index, Infix, Logical, Member, New, One, Shape, Shapes, Unary, also, none}
 use Rattle.js_print.specs.Kinds.{are_two, has_property, of_kind}
 use Rattle.js_print.proofs.Options.{some_map, some_three, some_two}
@@ -97,10 +96,10 @@ member fields =
     let name = two Member (shape_at fields 0) (plain_name (part fields 1)) in
     off_flag (flag_of (part fields 3)) (if computed then index else name)
     ∙ ap (λ b. not (flag_of (part fields 3)) && b)
-        (either_some computed index name
-        ∙ ap (λ b. if computed then b else is_some name) (some_two Index (shape_at fields 0) (shape_at fields 1))
-        ∙ ap (λ b. if computed then is_some (shape_at fields 0) && is_some (shape_at fields 1) else b) (some_two Member (shape_at fields 0) (plain_name (part fields 1)))
-        ∙ over_property computed (is_some (shape_at fields 0)) (is_some (shape_at fields 1)) (is_some (plain_name (part fields 1))))
+    (either_some computed index name
+    ∙ ap (λ b. if computed then b else is_some name) (some_two Index (shape_at fields 0) (shape_at fields 1))
+    ∙ ap (λ b. if computed then is_some (shape_at fields 0) && is_some (shape_at fields 1) else b) (some_two Member (shape_at fields 0) (plain_name (part fields 1)))
+    ∙ over_property computed (is_some (shape_at fields 0)) (is_some (shape_at fields 1)) (is_some (plain_name (part fields 1))))
 
 -- ---- a sequence
 

@@ -60,13 +60,7 @@ fn level_of(kind: Kind, fields: &FieldList) -> u8
         Kind::Identifier | Kind::Literal | Kind::ThisExpression | Kind::ArrayExpression => 23,
         Kind::NewExpression | Kind::MemberExpression => 22,
         Kind::CallExpression => 21,
-        Kind::UpdateExpression => {
-            if flag_at(fields, 1) {
-                18
-            } else {
-                19
-            }
-        }
+        Kind::UpdateExpression => { if flag_at(fields, 1) { 18 } else { 19 } }
         Kind::UnaryExpression => 18,
         Kind::BinaryExpression => binary_level_at(fields),
         Kind::LogicalExpression => logical_level_at(fields),

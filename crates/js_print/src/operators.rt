@@ -72,7 +72,10 @@ const UNARY_OPERATORS: [UnaryOperator; 7] = [
     UnaryOperator::Delete,
 ];
 
-const UPDATE_OPERATORS: [UpdateOperator; 2] = [UpdateOperator::Increment, UpdateOperator::Decrement];
+const UPDATE_OPERATORS: [UpdateOperator; 2] = [
+    UpdateOperator::Increment,
+    UpdateOperator::Decrement,
+];
 
 // The operator of a word's number.
 fn operator_at<T: Copy>(operators: &[T], word: u8) -> Option<T>
@@ -113,8 +116,11 @@ pub(crate) fn update_operator(word: u8) -> Option<UpdateOperator>
 
 // The numbers of the first punctuators of each kind of operator.
 const ASSIGNMENTS: u8 = 8;
+
 const BINARIES: u8 = 24;
+
 const LOGICALS: u8 = 44;
+
 const UPDATES: u8 = 49;
 
 #[tactic(auto, unfolding(js_grammar::specs::Tokens::assign_token, js_grammar::specs::Tokens::written, js_grammar::specs::Tokens::puncts))]

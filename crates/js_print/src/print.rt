@@ -18,9 +18,7 @@ use crate::operators::{
     assignment_operator, assignment_token, binary_operator, binary_token, logical_operator,
     logical_token, unary_operator, unary_token, update_operator, update_token,
 };
-use crate::token::{
-    CLOSE, CLOSE_SQUARE, COLON, COMMA, DOT, OPEN, OPEN_SQUARE, QUESTION, Token,
-};
+use crate::token::{CLOSE, CLOSE_SQUARE, COLON, COMMA, DOT, OPEN, OPEN_SQUARE, QUESTION, Token};
 use crate::tokens::Tokens;
 use std::alloc::{AllocError, Global};
 use syntax_lex::operator::{
@@ -164,11 +162,7 @@ fn print_operand(alloc: Global, fields: &FieldList, tokens: &mut Tokens) -> Resu
 }
 
 // Appends the value that the first field is.
-fn print_value_at(
-    alloc: Global,
-    fields: &FieldList,
-    tokens: &mut Tokens,
-) -> Result<(), AllocError>
+fn print_value_at(alloc: Global, fields: &FieldList, tokens: &mut Tokens) -> Result<(), AllocError>
     ensures { OnOk result (Adds (value_operand (part fields.now 0)) alone tokens.old tokens.new) }
 {
     match fields.get(0) {
@@ -215,7 +209,12 @@ fn print_unary(alloc: Global, fields: &FieldList, tokens: &mut Tokens) -> Result
 }
 
 #[cycle(print)]
-fn print_unary_by(alloc: Global, operator: UnaryOperator, fields: &FieldList, tokens: &mut Tokens) -> Result<(), AllocError>
+fn print_unary_by(
+    alloc: Global,
+    operator: UnaryOperator,
+    fields: &FieldList,
+    tokens: &mut Tokens,
+) -> Result<(), AllocError>
     ensures { OnOk result (Adds (two Unary (Some operator) (shape_at fields.now 2)) bare tokens.old tokens.new) }
 {
     let token = unary_token(alloc, operator)?;
@@ -234,7 +233,13 @@ fn print_update(alloc: Global, fields: &FieldList, tokens: &mut Tokens) -> Resul
 }
 
 #[cycle(print)]
-fn print_update_by(alloc: Global, operator: UpdateOperator, prefix: bool, fields: &FieldList, tokens: &mut Tokens) -> Result<(), AllocError>
+fn print_update_by(
+    alloc: Global,
+    operator: UpdateOperator,
+    prefix: bool,
+    fields: &FieldList,
+    tokens: &mut Tokens,
+) -> Result<(), AllocError>
     ensures { OnOk result (Adds (two (updated prefix) (Some operator) (target (shape_at fields.now 2))) bare tokens.old tokens.new) }
 {
     if prefix {
@@ -245,7 +250,12 @@ fn print_update_by(alloc: Global, operator: UpdateOperator, prefix: bool, fields
 }
 
 #[cycle(print)]
-fn print_prefix(alloc: Global, operator: UpdateOperator, fields: &FieldList, tokens: &mut Tokens) -> Result<(), AllocError>
+fn print_prefix(
+    alloc: Global,
+    operator: UpdateOperator,
+    fields: &FieldList,
+    tokens: &mut Tokens,
+) -> Result<(), AllocError>
     ensures { OnOk result (Adds (two Prefix (Some operator) (target (shape_at fields.now 2))) bare tokens.old tokens.new) }
 {
     tokens.push(update_token(operator))?;
@@ -253,7 +263,12 @@ fn print_prefix(alloc: Global, operator: UpdateOperator, fields: &FieldList, tok
 }
 
 #[cycle(print)]
-fn print_postfix(alloc: Global, operator: UpdateOperator, fields: &FieldList, tokens: &mut Tokens) -> Result<(), AllocError>
+fn print_postfix(
+    alloc: Global,
+    operator: UpdateOperator,
+    fields: &FieldList,
+    tokens: &mut Tokens,
+) -> Result<(), AllocError>
     ensures { OnOk result (Adds (two Postfix (Some operator) (target (shape_at fields.now 2))) bare tokens.old tokens.new) }
 {
     print_at(alloc, fields, 2, 21, tokens)?;
@@ -271,7 +286,12 @@ fn print_binary(alloc: Global, fields: &FieldList, tokens: &mut Tokens) -> Resul
 }
 
 #[cycle(print)]
-fn print_binary_by(alloc: Global, operator: BinaryOperator, fields: &FieldList, tokens: &mut Tokens) -> Result<(), AllocError>
+fn print_binary_by(
+    alloc: Global,
+    operator: BinaryOperator,
+    fields: &FieldList,
+    tokens: &mut Tokens,
+) -> Result<(), AllocError>
     ensures { OnOk result (Adds (three (λ o x y. Infix (Binary o) x y) (Some operator) (shape_at fields.now 0) (shape_at fields.now 2)) bare tokens.old tokens.new) }
 {
     let left = binary_left_level(operator);
@@ -291,17 +311,35 @@ fn print_logical(alloc: Global, fields: &FieldList, tokens: &mut Tokens) -> Resu
 }
 
 #[cycle(print)]
-fn print_logical_by(alloc: Global, operator: LogicalOperator, fields: &FieldList, tokens: &mut Tokens) -> Result<(), AllocError>
+fn print_logical_by(
+    alloc: Global,
+    operator: LogicalOperator,
+    fields: &FieldList,
+    tokens: &mut Tokens,
+) -> Result<(), AllocError>
     ensures { OnOk result (Adds (three (λ o x y. Infix (Logical o) x y) (Some operator) (shape_at fields.now 0) (shape_at fields.now 2)) bare tokens.old tokens.new) }
 {
     let after_coalesce = is_coalesce_first(fields);
     let left = logical_left_level(operator, after_coalesce);
     let right = logical_right_level(operator);
-    print_between(alloc, fields, 0, left, logical_token(operator), 2, right, tokens)
+    print_between(
+        alloc,
+        fields,
+        0,
+        left,
+        logical_token(operator),
+        2,
+        right,
+        tokens,
+    )
 }
 
 #[cycle(print)]
-fn print_assignment(alloc: Global, fields: &FieldList, tokens: &mut Tokens) -> Result<(), AllocError>
+fn print_assignment(
+    alloc: Global,
+    fields: &FieldList,
+    tokens: &mut Tokens,
+) -> Result<(), AllocError>
     ensures { OnOk result (Adds (of_kind AssignmentExpression fields.now) bare tokens.old tokens.new) }
 {
     match assignment_operator(word_at(fields, 0)) {
@@ -311,14 +349,32 @@ fn print_assignment(alloc: Global, fields: &FieldList, tokens: &mut Tokens) -> R
 }
 
 #[cycle(print)]
-fn print_assignment_by(alloc: Global, operator: AssignmentOperator, fields: &FieldList, tokens: &mut Tokens) -> Result<(), AllocError>
+fn print_assignment_by(
+    alloc: Global,
+    operator: AssignmentOperator,
+    fields: &FieldList,
+    tokens: &mut Tokens,
+) -> Result<(), AllocError>
     ensures { OnOk result (Adds (three Assign (Some operator) (target (shape_at fields.now 1)) (shape_at fields.now 2)) bare tokens.old tokens.new) }
 {
-    print_between(alloc, fields, 1, 21, assignment_token(operator), 2, 4, tokens)
+    print_between(
+        alloc,
+        fields,
+        1,
+        21,
+        assignment_token(operator),
+        2,
+        4,
+        tokens,
+    )
 }
 
 #[cycle(print)]
-fn print_conditional(alloc: Global, fields: &FieldList, tokens: &mut Tokens) -> Result<(), AllocError>
+fn print_conditional(
+    alloc: Global,
+    fields: &FieldList,
+    tokens: &mut Tokens,
+) -> Result<(), AllocError>
     ensures { OnOk result (Adds (of_kind ConditionalExpression fields.now) bare tokens.old tokens.new) }
 {
     print_at(alloc, fields, 0, 6, tokens)?;
@@ -462,7 +518,12 @@ fn print_at(
 
 #[cycle(print)]
 #[tactic(auto, unfolding(js_grammar::specs::Expressions::shape_at))]
-fn print_field(alloc: Global, field: &Field, level: u8, tokens: &mut Tokens) -> Result<(), AllocError>
+fn print_field(
+    alloc: Global,
+    field: &Field,
+    level: u8,
+    tokens: &mut Tokens,
+) -> Result<(), AllocError>
     requires { level ≤ 22 }
     ensures { OnOk result (Adds (shape_at (part_of field.now) 0) (printed level) tokens.old tokens.new) }
 {
@@ -559,13 +620,7 @@ fn logical_left_level(operator: LogicalOperator, after_coalesce: bool) -> u8
     match operator {
         LogicalOperator::Or => 7,
         LogicalOperator::And => 8,
-        LogicalOperator::Coalesce => {
-            if after_coalesce {
-                6
-            } else {
-                9
-            }
-        }
+        LogicalOperator::Coalesce => { if after_coalesce { 6 } else { 9 } }
     }
 }
 

@@ -94,7 +94,11 @@ fn is_unary(fields: &FieldList) -> bool
     ensures { result ≡ is_some (of_kind UnaryExpression fields.now) }
 {
     let argument = is_printable_at(fields, 2);
-    all_three(flag_at(fields, 1), is_unary_word(word_at(fields, 0)), argument)
+    all_three(
+        flag_at(fields, 1),
+        is_unary_word(word_at(fields, 0)),
+        argument,
+    )
 }
 
 #[cycle(printable)]

@@ -39,12 +39,19 @@ pub fn puncts_are_those_of_the_grammar()
 
 // The numbers of some of them.
 pub(crate) const OPEN: u8 = 0;
+
 pub(crate) const CLOSE: u8 = 1;
+
 pub(crate) const OPEN_SQUARE: u8 = 2;
+
 pub(crate) const CLOSE_SQUARE: u8 = 3;
+
 pub(crate) const DOT: u8 = 4;
+
 pub(crate) const COMMA: u8 = 5;
+
 pub(crate) const QUESTION: u8 = 6;
+
 pub(crate) const COLON: u8 = 7;
 
 pub(crate) fn word_token(alloc: Global, word: &str) -> Result<Token, AllocError>

@@ -1,5 +1,5 @@
 -- What the command `print` answers: the expression that a program is, as JavaScript.
-use Rattle.std.specs.Prelude.{◌≡◌, ◌++◌, ◌&&◌, ℕ, List, codes, nat_eq, Option, Some, None, option_and_then, IsSomeAnd, if◌then◌else◌}
+use Rattle.std.specs.Prelude.{◌≡◌, ◌++◌, ◌&&◌, ℕ, Bool, List, codes, nat_eq, Option, Some, None, option_and_then, IsSomeAnd, if◌then◌else◌}
 use Rattle.js_grammar.specs.Derives.{Derives}
 use Rattle.js_grammar.specs.Expressions.{IsPrintable, shape_of}
 use Rattle.js_grammar.specs.Laws.{AreFewest, AreNoOther}
@@ -31,9 +31,13 @@ unfoldable pub only_node : Parts → Option Tree
 only_node (many items more) = only_among items
 only_node _ = None
 
--- of an expression statement that is no directive
+-- an expression statement that is no directive
+abbrev pub is_stated : Tree → Bool
+is_stated s = is_kind s.kind ExpressionStatement && is_empty (part s.fields 1)
+
+-- its expression
 unfoldable pub stated_expression : Tree → Option Tree
-stated_expression s = if is_kind s.kind ExpressionStatement && is_empty (part s.fields 1) then first_node (part s.fields 0) else None
+stated_expression s = if is_stated s then first_node (part s.fields 0) else None
 
 -- of a program whose body is one such statement
 abbrev pub expression_of : Tree → Option Tree

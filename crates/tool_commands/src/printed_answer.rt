@@ -4,6 +4,7 @@ ghost use Rattle.std.specs.Prelude.{◌≡◌, IfErr, IfOk, option_map, string_b
 ghost use Rattle.tool_commands.specs.Print as spec;
 ghost use Rattle.tool_commands.specs.Print.{IsExpressionLine, IsLineCause, IsPrintCause, IsPrinted, IsProgramLine, IsUnprinted, only_among, only_node, stated_expression};
 ghost use Rattle.tree_nodes.specs.Tree.{part};
+ghost use Rattle.tree_nodes.specs.Views.{part_of};
 
 use crate::refusal::Refusal;
 use js_print::{PrintError, print_tokens, tokens_text};
@@ -59,7 +60,17 @@ fn only_in(fields: &FieldList) -> Option<&Node>
     ensures { option_map (λ n. n.now) result ≡ only_node (part fields.now 0) }
 {
     match fields.get(0) {
-        Some(Field::List(items)) => only_item(items),
+        Some(field) => only_in_field(field),
+        None => None,
+    }
+}
+
+#[tactic(auto, unfolding(crate::specs::Print::only_node))]
+fn only_in_field(field: &Field) -> Option<&Node>
+    ensures { option_map (λ n. n.now) result ≡ only_node (part_of field.now) }
+{
+    match field {
+        Field::List(items) => only_item(items),
         _ => None,
     }
 }
@@ -68,21 +79,46 @@ fn only_item(items: &NodeList) -> Option<&Node>
     ensures { option_map (λ n. n.now) result ≡ only_among items.now }
 {
     if items.len() == 1 {
-        items.get(0)?.as_ref()
+        first_item(items)
     } else {
         None
     }
 }
 
+fn first_item(items: &NodeList) -> Option<&Node>
+    ensures { option_map (λ n. n.now) result ≡ spec.first_node items.now }
+{
+    match items.get(0) {
+        Some(item) => node_in(item),
+        None => None,
+    }
+}
+
+fn node_in(item: &Option<Node>) -> Option<&Node>
+    ensures { option_map (λ n. n.now) result ≡ item.now }
+{
+    match item {
+        Some(node) => Some(node),
+        None => None,
+    }
+}
+
 // The expression of an expression statement that is no directive.
+#[tactic(auto, unfolding(crate::specs::Print::stated_expression))]
 fn stated(statement: &Node) -> Option<&Node>
     ensures { option_map (λ e. e.now) result ≡ stated_expression statement.now }
 {
-    if statement.kind.is(Kind::ExpressionStatement) && empty_at(&statement.fields, 1) {
+    if is_stated(statement) {
         first_node(&statement.fields)
     } else {
         None
     }
+}
+
+fn is_stated(statement: &Node) -> bool
+    ensures { result ≡ spec.is_stated statement.now }
+{
+    statement.kind.is(Kind::ExpressionStatement) && empty_at(&statement.fields, 1)
 }
 
 // The node that the first field is.
@@ -90,7 +126,17 @@ fn first_node(fields: &FieldList) -> Option<&Node>
     ensures { option_map (λ n. n.now) result ≡ spec.first_node (part fields.now 0) }
 {
     match fields.get(0) {
-        Some(Field::Child(node)) => Some(node),
+        Some(field) => node_of(field),
+        None => None,
+    }
+}
+
+#[tactic(auto, unfolding(crate::specs::Print::first_node))]
+fn node_of(field: &Field) -> Option<&Node>
+    ensures { option_map (λ n. n.now) result ≡ spec.first_node (part_of field.now) }
+{
+    match field {
+        Field::Child(node) => Some(node),
         _ => None,
     }
 }

@@ -1,14 +1,17 @@
-use Rattle.std.proofs.Common.{◌≡◌, ◌≤◌, not, slice_get, sym, ap, ◌∙◌}
+use Rattle.std.proofs.Common.{◌≤◌, not, slice_get, sym, ap, ◌∙◌}
 use Rattle.std.specs.Prelude.{is_some}
 use Rattle.tree_nodes.specs.Look.{parts_len}
-use Rattle.tree_nodes.specs.Tree.{Parts}
+use Rattle.tree_nodes.specs.Tree.{Tree}
+use Rattle.tree_nodes.specs.Views.{part_of}
 use Rattle.tree_nodes.proofs.Lists.{past_items, past_len}
-use Rattle.js_grammar.specs.Expressions.{assignment_operators, binary_operators, logical_operators, target, unary_operators, update_operators}
-use Rattle.js_grammar.specs.Shapes.{Shape}
+use Rattle.js_grammar.specs.Expressions.{assignment_operators, binary_operators, logical_operators, shape_at, shape_of, target, unary_operators, update_operators}
+use Rattle.js_print.specs.Kinds.{of_kind, target_kind}
+use Rattle.js_print.proofs.FieldsAlone.{no_node}
 use Rattle.js_print.proofs.PartsAt.{shape_found, shape_missing, shape_of_node, shapes_found, shapes_missing}
 use Rattle.js_print.proofs.PrintedLists.{tests_end, tests_go_on, tests_pass, tests_stop}
 use Rattle.js_print.proofs.Shaped as shaped
 use Rattle.js_print.proofs.Shaped.{both_are, three_are}
+use Rattle.js_print.proofs.Targets.{target_of_kind}
 use Rattle.js_print.proofs.printable.+printable.Goals as goal
 
 pub is_array-returns : goal.is_array-returns
@@ -70,7 +73,7 @@ pub are_printable-loop-i-preserved : goal.are_printable-loop-i-preserved
 are_printable-loop-i-preserved t c = tests_pass _ _ _ (c.loop-i.invariant ∙ tests_go_on c.args.nodes.now c.loop-i.i c.in-Some.item.now c.len-i-end.ensures.shaped c.in-Some.ensures.item) (sym c.is_printable_item.ensures ∙ c.if-not-is_printable_item.false)
 
 pub are_printable-returns-after-loop-i : goal.are_printable-returns-after-loop-i
-are_printable-returns-after-loop-i t c = 
+are_printable-returns-after-loop-i t c =
     let over : parts_len c.args.nodes.now ≤ c.loop-i.i = rw (← c.len-i-end.ensures.len) c.loop-i-test.false in
     sym (c.loop-i.invariant ∙ tests_end c.args.nodes.now c.loop-i.i (past_len c.args.nodes.now c.loop-i.i over))
 
@@ -78,4 +81,18 @@ pub are_printable-returns-in_default : goal.are_printable-returns-in_default
 are_printable-returns-in_default t c = sym (c.loop-i.invariant ∙ tests_end c.args.nodes.now c.loop-i.i (past_items c.args.nodes.now c.loop-i.i (sym c.in_default.ensures.item)))
 
 pub is_printable-returns : goal.is_printable-returns
-is_printable-returns t c = c.has_shape.ensures ∙ ap is_some (sym (shape_of_node c.args.node.now))
+is_printable-returns t c = c.has_shape.ensures ∙ ap (λ (x : Tree). is_some (of_kind x.kind x.fields)) c.node.view_is ∙ ap is_some (sym (shape_of_node c.args.node.now))
+
+pub is_target-returns-in-Child : goal.is_target-returns-in-Child
+is_target-returns-in-Child t c =
+    let x = c.in-Child.node.value in
+    let same = c.behind-node.view_is ∙ c.deref-in-Child.ensures in
+    c.both.ensures
+    ∙ both_are _ _ _ _ (c.is_target_kind.ensures ∙ ap (λ (y : Tree). target_kind y.kind) same) (c.is_printable-printable.ensures ∙ ap (λ y. is_some (shape_of y)) c.deref.ensures ∙ ap is_some (shape_of_node x))
+    ∙ sym (target_of_kind x.kind x.fields)
+    ∙ ap (λ o. is_some (target o)) (sym (shape_of_node x))
+    ∙ ap (λ f. is_some (target (shape_at (part_of f) 0))) (sym c.in-Child.is)
+
+pub is_target-returns-in_default : goal.is_target-returns-in_default
+unfolding target
+is_target-returns-in_default t c = ap (λ o. is_some (target o)) (no_node c.args.field.now c.in_default.not-Child)

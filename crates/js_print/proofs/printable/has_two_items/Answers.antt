@@ -1,5 +1,4 @@
 use Rattle.std.proofs.Common.{ap, ◌∙◌}
-use Rattle.std.specs.Prelude.{is_some}
 use Rattle.tree_nodes.proofs.Beside.{part_found, part_missing}
 use Rattle.tree_nodes.specs.Tree.{Parts}
 use Rattle.js_print.specs.Kinds.{are_two}
