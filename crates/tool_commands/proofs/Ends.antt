@@ -4,6 +4,7 @@ use Rattle.list_laws.proofs.Tests.{none_some, some_one}
 use Rattle.mangle_options.specs.Settings.{reserved_in}
 use Rattle.mangle_tool.proofs.Ends.{valid_refused}
 use Rattle.mangle_tool.specs.Input.{Parses}
+use Rattle.mangle_tool.specs.Mangling.{tree_in}
 use Rattle.mangle_tool.specs.declared.estree.error.MangleError.TheVariants as error
 use Rattle.mangle_tool.specs.declared.status.Status.TheVariants as status
 use Rattle.name_map.specs.Fits.{Fits}
@@ -13,15 +14,16 @@ use Rattle.serde_json.specs.Data.{Data}
 use Rattle.tool_commands.proofs.Commands.{CanAnswer}
 use Rattle.tool_commands.specs.Command.{IsToolCause}
 use Rattle.tool_commands.specs.Mapped.{Mapped, mapped, mapped_in}
+use Rattle.tool_commands.specs.Print.{IsPrintableInput, IsPrintableProgram, IsPrintCause}
 use Rattle.tool_commands.specs.Report.{IsReportable, IsReportCause, Sourced, sourced, sourced_in}
 use Rattle.tool_commands.specs.Restore.{IsRestorable, IsRestoreCause}
 use Rattle.tool_commands.specs.Status.{ended, refused_status}
 use Rattle.tool_commands.specs.declared.command.ToolWork.{ToolWork}
-use Rattle.tool_commands.specs.declared.command.ToolWork.TheVariants.{Map, Report, Restore}
+use Rattle.tool_commands.specs.declared.command.ToolWork.TheVariants.{Map, Print, Report, Restore}
 use Rattle.tool_commands.specs.declared.refusal.Refusal.{Refusal}
-use Rattle.tool_commands.specs.declared.refusal.Refusal.TheVariants.{BadMap, BadSpan, Input}
+use Rattle.tool_commands.specs.declared.refusal.Refusal.TheVariants.{BadMap, BadSpan, Input, NotPrintable}
 use Rattle.tool_commands.specs.declared.tool_status.ToolStatus.{ToolStatus}
-use Rattle.tool_commands.specs.declared.tool_status.ToolStatus.TheVariants.{Base, BadMap as Misfit, BadSpan as Misplaced}
+use Rattle.tool_commands.specs.declared.tool_status.ToolStatus.TheVariants.{Base, BadMap as Misfit, BadSpan as Misplaced, NotPrintable as Unprintable}
 use Rattle.tool_outside.specs.Outside.{EndsUnlessRefused}
 use Rattle.tool_outside.specs.declared.read_all.ReadAllError.TheVariants as read
 use Rattle.tool_outside.specs.declared.work.Outcome.{Outcome}
@@ -41,6 +43,7 @@ from_status (Base status.ReadFault) = Unread read.Failed
 from_status (Base status.WriteFault) = Unwritten
 from_status (Base status.Memory) = Refused (Input error.Memory)
 from_status Misfit = Refused BadMap
+from_status Unprintable = Refused NotPrintable
 from_status Misplaced = Refused BadSpan
 
 told_back : (o : Outcome Refusal) → ended o ≢ Base status.Memory → from_status (ended o) ≡ o
@@ -55,6 +58,7 @@ told_back (Refused (Input error.BadTree)) n = refl
 told_back (Refused (Input error.BadScope)) n = refl
 told_back (Refused (Input error.Memory)) n = absurd (n refl)
 told_back (Refused BadMap) n = refl
+told_back (Refused NotPrintable) n = refl
 told_back (Refused BadSpan) n = refl
 told_back Unwritten n = refl
 
@@ -92,6 +96,7 @@ refusal_back (Input error.BadTree) = refl
 refusal_back (Input error.BadScope) = refl
 refusal_back (Input error.Memory) = refl
 refusal_back BadMap = refl
+refusal_back NotPrintable = refl
 refusal_back BadSpan = refl
 
 pub ended_refused : (o : Outcome Refusal) (r : Refusal) → ended o ≡ refused_status r → ended o ≢ Base status.Memory → o ≡ Refused r
@@ -114,6 +119,7 @@ restorable_refused input BadMap v cause =
     let same : mapped cause.tree cause.undoing ≡ mapped v.tree v.undoing =
     some_one (mapped cause.tree cause.undoing) (mapped v.tree v.undoing) (sym cause.read.is_mapped ∙ ap mapped_in (same_value input cause.read.value v.read.value cause.read.parses v.read.parses) ∙ v.read.is_mapped) in
     absurd (cause.misfit (subst (λ (m : Mapped). Fits m.tree m.undoing) (sym same) v.fits))
+restorable_refused input NotPrintable v cause = absurd cause
 restorable_refused input BadSpan v cause = absurd cause
 
 reportable_refused : (input : List ℕ) (r : Refusal) → IsReportable input → IsReportCause r input → refused_status r ≡ Base status.Memory
@@ -125,17 +131,35 @@ reportable_refused input (Input error.BadTree) v cause =
 reportable_refused input (Input error.BadScope) v cause = absurd cause
 reportable_refused input (Input error.Memory) v cause = refl
 reportable_refused input BadMap v cause = absurd cause
+reportable_refused input NotPrintable v cause = absurd cause
 reportable_refused input BadSpan v cause =
     let same : sourced cause.source cause.tree ≡ sourced v.source v.tree =
     some_one (sourced cause.source cause.tree) (sourced v.source v.tree) (sym cause.read.is_sourced ∙ ap sourced_in (same_value input cause.read.value v.read.value cause.read.parses v.read.parses) ∙ v.read.is_sourced) in
     let bad : HasBadSpan v.source (found_in v.tree) = subst (λ (s : Sourced). HasBadSpan s.source (found_in s.tree)) same cause.bad in
     absurd (bad.2 (v.spans bad.0 bad.1))
 
+printable_refused : (input : List ℕ) (r : Refusal) → IsPrintableInput input → IsPrintCause r input → refused_status r ≡ Base status.Memory
+printable_refused input (Input error.NotJson) v cause = absurd (none_some v.read.value (sym (cause v.read.parses.0) ∙ v.read.parses.1))
+printable_refused input (Input error.TooLarge) v cause =
+    absurd (true≢false (sym cause.cause ∙ ap (λ (d : Data). is_too_large d 0) (same_value input cause.value v.read.value cause.parses v.read.parses) ∙ v.read.within))
+printable_refused input (Input error.BadTree) v cause =
+    absurd (none_some v.tree (sym cause.cause.no_tree ∙ ap tree_in (same_value input cause.value v.read.value cause.parses v.read.parses) ∙ v.read.is_tree))
+printable_refused input (Input error.BadScope) v cause = absurd cause
+printable_refused input (Input error.Memory) v cause = refl
+printable_refused input BadMap v cause = absurd cause
+printable_refused input NotPrintable v cause =
+    let same : cause.tree ≡ v.tree =
+    some_one cause.tree v.tree (sym cause.read.is_tree ∙ ap tree_in (same_value input cause.read.value v.read.value cause.read.parses v.read.parses) ∙ v.read.is_tree) in
+    absurd (cause.unprintable (subst IsPrintableProgram (sym same) v.printable))
+printable_refused input BadSpan v cause = absurd cause
+
 work_caused : (w : ToolWork) (input : List ℕ) (r : Refusal) → CanAnswer w input → IsToolCause w r input → refused_status r ≡ Base status.Memory
 work_caused (Map o) input (Input e) v cause = ap Base (valid_refused (length (reserved_in o)) input e v cause)
 work_caused (Map o) input BadMap v cause = absurd cause
+work_caused (Map o) input NotPrintable v cause = absurd cause
 work_caused (Map o) input BadSpan v cause = absurd cause
 work_caused Restore input r v cause = restorable_refused input r v cause
+work_caused Print input r v cause = printable_refused input r v cause
 work_caused Report input r v cause = reportable_refused input r v cause
 
 pub work_ends : (w : ToolWork) (input : List ℕ) (o : Outcome Refusal) → CanAnswer w input → EndsUnlessRefused (λ r. IsToolCause w r input) o

@@ -13,3 +13,4 @@ pub mod MappedTexts
 pub mod MapValues
 pub mod MappedRead
 pub mod UndoneMaps
+mod OnlyNodes

@@ -7,14 +7,15 @@ use Rattle.mangle_options.specs.declared.options.MangleOptions.{MangleOptions}
 use Rattle.mangle_tool.specs.Answer.{IsCauseOf}
 use Rattle.mangle_tool.specs.Asked.{asked_by}
 use Rattle.tool_commands.specs.Map.{IsMapAnswer}
+use Rattle.tool_commands.specs.Print.{IsPrintCause, IsPrinted}
 use Rattle.tool_commands.specs.Report.{IsReportCause, IsReported}
 use Rattle.tool_commands.specs.Restore.{IsRestoreCause, IsRestored}
 use Rattle.tool_commands.specs.declared.command.CommandWord.{CommandWord}
 use Rattle.tool_commands.specs.declared.command.CommandWord.TheVariants as word
 use Rattle.tool_commands.specs.declared.command.ToolWork.{ToolWork}
-use Rattle.tool_commands.specs.declared.command.ToolWork.TheVariants.{Map, Report, Restore}
+use Rattle.tool_commands.specs.declared.command.ToolWork.TheVariants.{Map, Print, Report, Restore}
 use Rattle.tool_commands.specs.declared.refusal.Refusal.{Refusal}
-use Rattle.tool_commands.specs.declared.refusal.Refusal.TheVariants.{BadMap, BadSpan, Input}
+use Rattle.tool_commands.specs.declared.refusal.Refusal.TheVariants.{BadMap, BadSpan, Input, NotPrintable}
 use Rattle.tool_words.specs.Words.{HasSettings, Settings, Task, command_of, settings_of}
 use Rattle.tool_words.specs.declared.command.Layout.{Layout}
 use Rattle.tool_words.specs.declared.command.Layout.TheVariants.{Compact}
@@ -29,6 +30,8 @@ pub data ToolTask : Type 0 where
   mapping : Settings → ToolTask
   -- to give back what a map undoes
   restoring : ToolTask
+  -- to print the expression that a program is
+  printing : ToolTask
   -- to tell what is found in a program
   reporting : ToolTask
 
@@ -38,14 +41,17 @@ command_word [] = None
 command_word (w ∷ ws) =
     if bytes_eq w (codes "map") then Some word.Map
     else if bytes_eq w (codes "restore") then Some word.Restore
+    else if bytes_eq w (codes "print") then Some word.Print
     else if bytes_eq w (codes "report") then Some word.Report
     else None
 
--- what a command is asked by the words behind its own: `map` takes the options of a mangling, `restore` and `report` none
+-- what a command is asked by the words behind its own: `map` takes the options of a mangling, the others none
 abbrev pub work_of : CommandWord → List Text → Option ToolTask
 work_of word.Map ws = option_map mapping (settings_of false ws)
 work_of word.Restore [] = Some restoring
 work_of word.Restore (w ∷ ws) = None
+work_of word.Print [] = Some printing
+work_of word.Print (w ∷ ws) = None
 work_of word.Report [] = Some reporting
 work_of word.Report (w ∷ ws) = None
 
@@ -69,6 +75,7 @@ pub record AsksMapping (asked : Option ToolTask) (o : MangleOptions) : Type 0 wh
 abbrev pub IsWorkAsked : Option ToolTask → ToolWork → Type 0
 IsWorkAsked asked (Map o) = AsksMapping asked o
 IsWorkAsked asked Restore = asked ≡ Some restoring
+IsWorkAsked asked Print = asked ≡ Some printing
 IsWorkAsked asked Report = asked ≡ Some reporting
 
 abbrev pub IsToolAsked : List Text → Option ToolWork → Type 0
@@ -80,11 +87,14 @@ IsToolAsked ws (Some work) = IsWorkAsked (tool_command_of ws) work
 abbrev pub IsToolAnswer : ToolWork → (input text : List ℕ) → Type 0
 IsToolAnswer (Map o) input text = IsMapAnswer (asked_by o Compact) input text
 IsToolAnswer Restore input text = IsRestored input text
+IsToolAnswer Print input text = IsPrinted input text
 IsToolAnswer Report input text = IsReported input text
 
 abbrev pub IsToolCause : ToolWork → Refusal → (input : List ℕ) → Type 0
 IsToolCause (Map o) (Input e) input = IsCauseOf (length (reserved_in o)) e input
 IsToolCause (Map o) BadMap input = ⊥
+IsToolCause (Map o) NotPrintable input = ⊥
 IsToolCause (Map o) BadSpan input = ⊥
 IsToolCause Restore r input = IsRestoreCause r input
+IsToolCause Print r input = IsPrintCause r input
 IsToolCause Report r input = IsReportCause r input

@@ -2,6 +2,7 @@ pub mod Command
 pub mod Map
 pub mod Mapped
 pub mod Pairs
+pub mod Print
 pub mod Report
 pub mod Restore
 pub mod Status

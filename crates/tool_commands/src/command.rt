@@ -5,6 +5,7 @@ ghost use Rattle.tool_commands.specs.Command as spec;
 ghost use Rattle.tool_commands.specs.Command.{IsToolAsked, IsWorkAsked, tool_command_of, work_of};
 
 use crate::map_answer::map_answer;
+use crate::printed_answer::printed_answer;
 use crate::refusal::Refusal;
 use crate::report::report_answer;
 use crate::restored_answer::restored_answer;
@@ -20,6 +21,8 @@ pub enum ToolWork {
     Map(MangleOptions),
     /// To give back what a map undoes.
     Restore,
+    /// To print the expression that a program is.
+    Print,
     /// To tell what is found in a program, by line and column in its source text.
     Report,
 }
@@ -37,6 +40,7 @@ impl Work for ToolWork {
         match self {
             ToolWork::Map(options) => Ok(map_answer(alloc, input, options)?),
             ToolWork::Restore => restored_answer(alloc, input),
+            ToolWork::Print => printed_answer(alloc, input),
             ToolWork::Report => report_answer(alloc, input),
         }
     }
@@ -47,6 +51,7 @@ impl Work for ToolWork {
 pub enum CommandWord {
     Map,
     Restore,
+    Print,
     Report,
 }
 
@@ -77,6 +82,13 @@ fn read_work(alloc: Global, word: CommandWord, words: &[CompactStr]) -> Result<T
         CommandWord::Restore => {
             if words.is_empty() {
                 Ok(ToolWork::Restore)
+            } else {
+                Err(WordError::BadArgument)
+            }
+        }
+        CommandWord::Print => {
+            if words.is_empty() {
+                Ok(ToolWork::Print)
             } else {
                 Err(WordError::BadArgument)
             }
@@ -112,6 +124,9 @@ fn command_word(words: &[CompactStr]) -> Option<CommandWord>
     }
     if word == "restore" {
         return Some(CommandWord::Restore);
+    }
+    if word == "print" {
+        return Some(CommandWord::Print);
     }
     if word == "report" {
         return Some(CommandWord::Report);

@@ -7,6 +7,7 @@ mod map_answer;
 mod mapped_text;
 mod members;
 mod pair;
+mod printed_answer;
 mod refusal;
 mod report;
 mod report_text;

@@ -10,6 +10,8 @@ pub enum Refusal {
     Input(MangleError),
     /// The map doesn't fit the tree.
     BadMap,
+    /// The program isn't one expression that can be printed.
+    NotPrintable,
     /// A place that has a finding starts past the source text or within a character.
     BadSpan,
 }

@@ -14,6 +14,8 @@ pub enum ToolStatus {
     Base(Status),
     /// The map doesn't fit the tree.
     BadMap,
+    /// The program isn't one expression that can be printed.
+    NotPrintable,
     /// A place that has a finding starts past the source text or within a character.
     BadSpan,
 }
@@ -26,6 +28,7 @@ impl ToolStatus {
         match self {
             ToolStatus::Base(status) => status.number(),
             ToolStatus::BadMap => 11,
+            ToolStatus::NotPrintable => 12,
             ToolStatus::BadSpan => 14,
         }
     }
@@ -38,6 +41,7 @@ impl From<Refusal> for ToolStatus {
         match refusal {
             Refusal::Input(error) => ToolStatus::Base(Status::from(error)),
             Refusal::BadMap => ToolStatus::BadMap,
+            Refusal::NotPrintable => ToolStatus::NotPrintable,
             Refusal::BadSpan => ToolStatus::BadSpan,
         }
     }
@@ -63,6 +67,7 @@ pub fn tool_line(status: ToolStatus) -> &'static str
     match status {
         ToolStatus::Base(status) => status_line(status),
         ToolStatus::BadMap => "mangle: bad map",
+        ToolStatus::NotPrintable => "mangle: not printable",
         ToolStatus::BadSpan => "mangle: bad span",
     }
 }

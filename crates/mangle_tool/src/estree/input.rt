@@ -1,6 +1,6 @@
 //! The program in an input, as bytes or as a value.
 
-ghost use Rattle.std.specs.Prelude.{◌≡◌, ◌+◌, ◌<◌, ◌^◌, ◌↔◌, false, Err, IfErr, IfOk, IsTrue, None, Some, is_some, option_and_then, option_map};
+ghost use Rattle.std.specs.Prelude.{◌≡◌, ◌≢◌, ◌+◌, ◌<◌, ◌^◌, ◌↔◌, false, Err, IfErr, IfOk, IsTrue, None, Some, is_some, option_and_then, option_map};
 ghost use Rattle.serde_json.specs.Find.{as_array};
 ghost use Rattle.serde_json.specs.View.{view, members_view};
 ghost use Rattle.tree_core.specs.JsonOf.{json_of};
@@ -26,6 +26,7 @@ pub fn program_of(alloc: Global, input: &[u8], reserved: usize) -> Result<Progra
     ensures ok { IfOk result (λ p. IsReadFrom reserved input.now p) }
     ensures few { IfOk result (λ p. node_count p + reserved < 2 ^ 30) }
     ensures cause { IfErr result (λ e. IsCauseOf reserved e input.now) }
+    ensures no_scopes { result ≢ Err MangleError.BadScope }
 {
     let value = match Value::from_slice(alloc, input) {
         Ok(value) => value,
