@@ -94,7 +94,7 @@ module_fields (many items more) key key' g w c f e h =
 
 program_kind : (t : Tree) → is_placed t ≡ true → t.kind ≡ Program
 unfolding all_open
-program_kind t p = kind_told t.kind Program (and_parts _ _ (and_parts _ _ p).0).0
+program_kind t p = kind_told t.kind Program (and_parts _ _ p).0
 
 pub module_body : (t : Tree) → IsProgram t → is_bare_module t ≡ true → (t.kind ≡ Program) × IsModule t.fields
 unfolding is_bare_module

@@ -1,8 +1,10 @@
 -- The bodies of modules, with one more.
 use Rattle.std.specs.Prelude.{◌≡◌, ◌<◌, ◌≤◌, ◌^◌, ◌+◌, ℕ, suc, List, [], ◌∷◌, ◌++◌, map, sum, length, Option, Some, None}
-use Rattle.std.specs.List.{AllByRecursion}
+use Rattle.std.specs.List.{AllByRecursion, sum_by}
 use Rattle.std.proofs.Common.{refl, sym, ap, ap₂, subst, ◌∙◌, arith}
 use Rattle.std.proofs.lemmas.List.{map-append}
+use Rattle.std.proofs.lemmas.List.Sums.{sum_by-cons}
+use Rattle.bundle_names.proofs.JoinedPrograms.{body_nodes, more_nodes}
 use Rattle.bundle_names.specs.Joining.{IsBareProgram}
 use Rattle.bundle_rules.proofs.Counted.{nodes_renamed}
 use Rattle.bundle_rules.specs.Bundles.{AreParts, modules_of}
@@ -34,13 +36,16 @@ one_body_more (v ∷ us) u = ap (onto (body v)) (one_body_more us u) ∙ sym (on
 -- ---- where each begins
 
 abbrev many_before : List Tree → ℕ
-many_before ts = sum (map (λ t. parts_len (body t)) ts)
+many_before ts = sum_by (λ t. parts_len (body t)) ts
+
+many_more : (t : Tree) (ts : List Tree) → many_before (t ∷ ts) ≡ parts_len (body t) + many_before ts
+many_more t ts = sum_by-cons (λ (u : Tree). parts_len (body u)) t ts
 
 starts_and : (n : ℕ) (ts : List Tree) (t : Tree) → starts_from n (ts ++ t ∷ []) ≡ starts_from n ts ++ (n + many_before ts) ∷ []
 unfolding starts_from
 starts_and n [] t = ap (λ (k : ℕ). k ∷ []) (omega arith)
 starts_and n (s ∷ ts) t =
-    ap (λ (ns : List ℕ). n ∷ ns) (starts_and (n + parts_len (body s)) ts t ∙ ap (λ (k : ℕ). starts_from (n + parts_len (body s)) ts ++ k ∷ []) (omega arith))
+    ap (λ (ns : List ℕ). n ∷ ns) (starts_and (n + parts_len (body s)) ts t ∙ ap (λ (k : ℕ). starts_from (n + parts_len (body s)) ts ++ k ∷ []) (omega (arith, many_more s ts)))
 
 len_onto : (x y : Parts) → parts_len (onto x y) ≡ parts_len x + parts_len y
 len_onto done y = omega arith
@@ -73,9 +78,9 @@ as_long t u b c r =
     ∙ long_blind (body t)
 
 -- what the modules and the trees have alike
-record Alike (ts us : List Tree) : Type 0 where
-  long : many_before us ≡ many_before ts
-  nodes : sum (map node_count us) ≡ sum (map node_count ts)
+pub record Alike (ts us : List Tree) : Type 0 where
+  pub long : many_before us ≡ many_before ts
+  pub nodes : sum_by node_count us ≡ sum_by node_count ts
 
 pub all_alike : (all before : Modules) (given : List Text) (ts us : List Tree) (last : List Text) → AreParts all before given ts us last → AllByRecursion IsBare ts → AllByRecursion IsBareProgram us → Alike ts us
 all_alike all before given [] [] last a b c = record { long = refl; nodes = refl }
@@ -85,14 +90,14 @@ all_alike all before given (t ∷ ts) (u ∷ us) last a b c =
     let rest = all_alike all (before ++ mentions_of t ∷ []) (given ++ a.0) ts us last a.2 b.1 c.1 in
     let one : node_count u ≡ node_count t = (let e : nodes_in (alone u) ≡ nodes_in (alone t) = nodes_renamed (alone t) (alone u) a.1.renamed in omega (arith, e)) in
     record {
-      long = ap₂ (λ (n k : ℕ). n + k) (as_long t u b.0 c.0.1 a.1.renamed) rest.long;
-      nodes = ap₂ (λ (n k : ℕ). n + k) one rest.nodes;
+      long = many_more u us ∙ ap₂ (λ (n k : ℕ). n + k) (as_long t u b.0 c.0.1 a.1.renamed) rest.long ∙ sym (many_more t ts);
+      nodes = sum_by-cons node_count u us ∙ ap₂ (λ (n k : ℕ). n + k) one rest.nodes ∙ sym (sum_by-cons node_count t ts);
     }
 
 bodies_len : (us : List Tree) → parts_len (bodies us) ≡ many_before us
 unfolding bodies
 bodies_len [] = refl
-bodies_len (u ∷ us) = len_onto (body u) (bodies us) ∙ ap (λ (n : ℕ). parts_len (body u) + n) (bodies_len us)
+bodies_len (u ∷ us) = len_onto (body u) (bodies us) ∙ ap (λ (n : ℕ). parts_len (body u) + n) (bodies_len us) ∙ sym (many_more u us)
 
 -- the next one begins past the statements so far
 pub one_start_more : (all before : Modules) (given : List Text) (ts us : List Tree) (last : List Text) → AreParts all before given ts us last → AllByRecursion IsBare ts → AllByRecursion IsBareProgram us
@@ -104,16 +109,17 @@ one_start_more all before given ts us last a b c items e t =
 
 -- ---- few enough nodes
 
-abbrev body_nodes : List Tree → ℕ
-body_nodes us = sum (map (λ u. nodes_in (body u)) us)
-
 one_fewer : (u : Tree) → IsBare u → suc (nodes_in (body u)) ≡ node_count u
 one_fewer u b = let e : nodes_in u.fields ≡ nodes_in (fields_of (body u)) = ap nodes_in b.1 in omega (arith, e)
 
-fewer : (us : List Tree) → AllByRecursion IsBareProgram us → body_nodes us ≤ sum (map node_count us)
+fewer : (us : List Tree) → AllByRecursion IsBareProgram us → body_nodes us ≤ sum_by node_count us
 fewer [] c = omega arith
-fewer (u ∷ us) c = omega (arith, one_fewer u c.0.1, fewer us c.1)
+fewer (u ∷ us) c =
+    let nodes : sum_by node_count (u ∷ us) ≡ node_count u + sum_by node_count us = sum_by-cons node_count u us in
+    omega (arith, one_fewer u c.0.1, fewer us c.1, nodes, more_nodes u us)
 
-pub few_nodes : (us : List Tree) → AllByRecursion IsBareProgram us → sum (map node_count us) < 2 ^ 30 → body_nodes us + 1 < 2 ^ 30
+pub few_nodes : (us : List Tree) → AllByRecursion IsBareProgram us → sum_by node_count us < 2 ^ 30 → body_nodes us + 1 < 2 ^ 30
 few_nodes [] c h = omega arith
-few_nodes (u ∷ us) c h = omega (arith, one_fewer u c.0.1, fewer us c.1, h)
+few_nodes (u ∷ us) c h =
+    let nodes : sum_by node_count (u ∷ us) ≡ node_count u + sum_by node_count us = sum_by-cons node_count u us in
+    omega (arith, one_fewer u c.0.1, fewer us c.1, h, nodes, more_nodes u us)

@@ -1,7 +1,7 @@
 -- Joined bodies are the modules in one scope, and a program: so the laws on joined modules hold of it.
-use Rattle.std.proofs.Common.{◌≡◌, ◌<◌, ◌^◌, ℕ, true, false, IsFalse, IsTrue, List, [], ◌∷◌, map, sum, sym, ap, subst, ◌∙◌}
+use Rattle.std.proofs.Common.{◌≡◌, ◌<◌, ◌^◌, ℕ, true, false, IsFalse, IsTrue, List, [], ◌∷◌, map, sym, ap, subst, ◌∙◌}
 use Rattle.std.proofs.lemmas.Bool.{and_parts, or_parts}
-use Rattle.std.specs.List.{AllByRecursion, list_all, list_any}
+use Rattle.std.specs.List.{AllByRecursion, list_all, list_any, sum_by}
 use Rattle.bundle_names.proofs.BodiesInTurn.{all_alike, few_nodes}
 use Rattle.bundle_names.proofs.JoinedPrograms.{joined_program}
 use Rattle.bundle_names.specs.Causes.{are_plain, have_fault, is_faulty}
@@ -29,7 +29,7 @@ module _ (ts : List Tree) (g : Given) (b : Bodies) (j : AreJoined (modules_of ts
   unfolding joined
   bundle = (j.trees, j.given, j.parts, is ∙ ap module_of j.statements)
 
-  pub program : sum (map node_count ts) < 2 ^ 30 → IsProgram w
+  pub program : sum_by node_count ts < 2 ^ 30 → IsProgram w
   unfolding joined
   program few =
       subst IsProgram (sym (is ∙ ap module_of j.statements))

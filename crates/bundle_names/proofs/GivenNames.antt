@@ -60,6 +60,7 @@ module _ (all before : Modules) (given : List Text) (n : Names) (g : Given) (hn 
   -- what was tried with it
   pub still_given : (g' : Given) → ((y : Text) → has_name g'.roots y ≡ has_name g.roots y) → ((y : Text) → contains_text g'.names y ≡ (contains_text g.names y || same_name new y))
       → ((y : Text) → last_tried g'.tried y ≡ cond (bytes_eq x y) k (last_tried g.tried y)) → HoldsGiven all before (given ++ new ∷ []) g'
+  unfolding same_name
   still_given g' roots names tried = record {
     roots = λ y. roots y ∙ hg.roots y;
     names = λ y. names y ∙ ap₂ (λ (a b : Bool). a || b) (hg.names y) (turned new y) ∙ sym (among_more given new y);

@@ -2,7 +2,10 @@
 use Rattle.std.proofs.Common.{◌≡◌, ◌<◌, ◌≤◌, ◌^◌, ℕ, zero, suc, ◌+◌, max, Bool, true, false, ◌&&◌, ◌||◌, cond, List, [], ◌∷◌, codes, IsUtf8, Option, Some, None, option_and_then, option_map, map, sum, refl, sym, ap, ap₂, subst, ◌∙◌, arith}
 use Rattle.std.proofs.lemmas.Bool.{and_from, and_parts, both_ways}
 use Rattle.std.proofs.lemmas.Str.{IsUtf8-from_ascii}
-use Rattle.std.specs.List.{AllByRecursion}
+use Rattle.std.specs.List.{AllByRecursion, sum_by}
+use Rattle.std.specs.Str.{chars}
+use Rattle.std.specs.Char.Utf16.{utf16_chars}
+use Rattle.std.proofs.lemmas.List.Sums.{sum_by-cons}
 use Rattle.bundle_names.proofs.BareModules.{many_without_holes}
 use Rattle.bundle_names.specs.Joining.{IsBareProgram}
 use Rattle.bundle_rules.specs.Joined.{bodies, body, joined, module_of}
@@ -50,6 +53,7 @@ utf8 : IsUtf8 (codes "module")
 utf8 = IsUtf8-from_ascii (codes "module") (ascii_text (codes "module") refl)
 
 module_word : FitsAtom (Word SourceTypes) (word 1)
+unfolding chars utf16_chars
 module_word = (
   λ t ts. ap (λ (o : Option Text). option_map (λ (n : ℕ). one (word n)) (option_and_then (word_number (word_list SourceTypes)) o)) (text_of_units-units_of (codes "module") utf8),
   AreCodeUnits-units_of (codes "module") utf8,
@@ -90,7 +94,7 @@ stands_onto (child k s e fields more) y within f g =
 -- of a program of these fields, the statements
 placed_items : (x : Parts) (s e : ℕ) → is_placed (record { kind = Program; start = s; stop = e; fields = fields_of x }) ≡ true → stands x (all body_column) Read (fields_of x) ≡ true
 unfolding all_open
-placed_items x s e p = (and_parts (stands x (all body_column) Read (fields_of x)) true (and_parts _ _ (and_parts _ _ p).0).1).0
+placed_items x s e p = (and_parts (stands x (all body_column) Read (fields_of x)) true (and_parts (stands x (all body_column) Read (fields_of x) && true) true p).0).0
 
 items_placed : (x : Parts) → stands x (all body_column) Read (fields_of x) ≡ true → is_placed (module_of x) ≡ true
 unfolding all_open module_of
@@ -136,13 +140,16 @@ few_items (atom a more) f = absurd (both_ways false refl f.0)
 few_items (child k s e fields more) f = omega (arith, few_items more f.2)
 few_items (many items more) f = absurd f
 
-abbrev all_nodes : List Tree → ℕ
-all_nodes us = sum (map (λ u. nodes_in (body u)) us)
+abbrev pub body_nodes : List Tree → ℕ
+body_nodes us = sum_by (λ u. nodes_in (body u)) us
 
-bodies_nodes : (us : List Tree) → nodes_in (bodies us) ≡ all_nodes us
+pub more_nodes : (u : Tree) (us : List Tree) → body_nodes (u ∷ us) ≡ nodes_in (body u) + body_nodes us
+more_nodes u us = sum_by-cons (λ (t : Tree). nodes_in (body t)) u us
+
+bodies_nodes : (us : List Tree) → nodes_in (bodies us) ≡ body_nodes us
 unfolding bodies
 bodies_nodes [] = refl
-bodies_nodes (u ∷ us) = nodes_onto (body u) (bodies us) ∙ ap (λ (n : ℕ). nodes_in (body u) + n) (bodies_nodes us)
+bodies_nodes (u ∷ us) = nodes_onto (body u) (bodies us) ∙ ap (λ (n : ℕ). nodes_in (body u) + n) (bodies_nodes us) ∙ sym (more_nodes u us)
 
 abbrev Small : Tree → Type 0
 Small u = (widest_list (body u) < 2 ^ 30) × (longest_text (body u) < 2 ^ 32)
@@ -181,7 +188,7 @@ all_small : (us : List Tree) → AllByRecursion IsBareProgram us → AllByRecurs
 all_small [] h = tt
 all_small (u ∷ us) h = (small u h.0.0 h.0.1, all_small us h.1)
 
-pub joined_program : (us : List Tree) → AllByRecursion IsBareProgram us → all_nodes us + 1 < 2 ^ 30 → IsProgram (joined us)
+pub joined_program : (us : List Tree) → AllByRecursion IsBareProgram us → body_nodes us + 1 < 2 ^ 30 → IsProgram (joined us)
 unfolding joined module_of
 joined_program us h few =
     let fit = bodies_fit us (all_fit us h) in
@@ -190,7 +197,7 @@ joined_program us h few =
     let wide : widest_list (bodies us) < 2 ^ 30 = small.0 in
     let long : longest_text (bodies us) < 2 ^ 32 = small.1 in
     let items : parts_len (bodies us) ≤ nodes_in (bodies us) = few_items (bodies us) fit in
-    let nodes : nodes_in (bodies us) ≡ all_nodes us = bodies_nodes us in (
+    let nodes : nodes_in (bodies us) ≡ body_nodes us = bodies_nodes us in (
       tree_of-placed (value_of (joined us)) (joined us) (tree_back (joined us) (module_fits (bodies us) fit)).0 (items_placed (bodies us) (stands_beside (bodies us) (bodies us) done ∙ stand)),
       omega (arith, few, nodes),
       omega (arith, few, nodes, items, wide),

@@ -26,6 +26,9 @@ at_linked ps i o items e f =
     ap is_linked (past_item ps i o items e) ∙ first_linked o (past (suc i) ps) ∙ ap (λ (b : Bool). b || is_linked (past (suc i) ps)) f
 
 -- past the last
-pub none_linked : (ps : Parts) (i : ℕ) → item_at ps i ≡ None → is_linked (past i ps) ≡ false
+pub none_linked_past : (ps : Parts) (i : ℕ) → past i ps ≡ done → is_linked (past i ps) ≡ false
 unfolding is_linked
-none_linked ps i e = ap is_linked (past_items ps i e)
+none_linked_past ps i e = ap is_linked e
+
+pub none_linked : (ps : Parts) (i : ℕ) → item_at ps i ≡ None → is_linked (past i ps) ≡ false
+none_linked ps i e = none_linked_past ps i (past_items ps i e)

@@ -2,6 +2,7 @@
 use Rattle.std.specs.Prelude.{◌≡◌, ℕ, suc, ◌+◌, Bool, true, false, cond, List, [], ◌∷◌, ◌++◌, map, filter, length, nat_eq, Option, Some}
 use Rattle.std.proofs.Common.{refl, sym, ap, subst, ◌∙◌, arith}
 use Rattle.std.proofs.lemmas.List.{append-nil}
+use Rattle.std.proofs.lemmas.List.Elements.{filter-append}
 use Rattle.bundle_names.proofs.NamesByNumber.{one_number_more}
 use Rattle.bundle_names.proofs.PartsInTurn.{as_many, new_names_and}
 use Rattle.bundle_names.specs.NewNames.{AreNew, at_node, texts}
@@ -21,21 +22,10 @@ one_new_more all given ms m old new x k a n e c put = record {
       put q ∙ ap (λ (i : ℕ). cond (nat_eq m.node q) (Some i) (at_node old.numbers q)) number ∙ ap (cond (nat_eq m.node q) (Some (0 + length ms))) (a.numbered q) ∙ sym (one_number_more 0 ms m q);
 }
 
-filter_last : {X : Type 0} (test : X → Bool) (xs : List X) (x : X) → filter test (xs ++ x ∷ []) ≡ filter test xs ++ cond (test x) (x ∷ []) []
-filter_last test [] x = go (test x)
-  where
-    go : (b : Bool) → cond b (x ∷ []) [] ≡ cond b (x ∷ []) []
-    go b = refl
-filter_last test (y ∷ xs) x = go (test y) (filter_last test xs x)
-  where
-    go : (b : Bool) → filter test (xs ++ x ∷ []) ≡ filter test xs ++ cond (test x) (x ∷ []) [] → cond b (y ∷ filter test (xs ++ x ∷ [])) (filter test (xs ++ x ∷ [])) ≡ cond b (y ∷ filter test xs) (filter test xs) ++ cond (test x) (x ∷ []) []
-    go true e = ap (λ (zs : List X). y ∷ zs) e
-    go false e = e
-
 pub one_needing_more : (all before : Modules) (ms : List Mention) (m : Mention) → needs_new_name all before m ≡ true → needing all before (ms ++ m ∷ []) ≡ needing all before ms ++ m ∷ []
 unfolding needing
-one_needing_more all before ms m e = filter_last (needs_new_name all before) ms m ∙ ap (λ (b : Bool). filter (needs_new_name all before) ms ++ cond b (m ∷ []) []) e
+one_needing_more all before ms m e = filter-append (needs_new_name all before) ms (m ∷ []) ∙ ap (λ (b : Bool). filter (needs_new_name all before) ms ++ cond b (m ∷ []) []) e
 
 pub none_needing_more : (all before : Modules) (ms : List Mention) (m : Mention) → needs_new_name all before m ≡ false → needing all before (ms ++ m ∷ []) ≡ needing all before ms
 unfolding needing
-none_needing_more all before ms m e = filter_last (needs_new_name all before) ms m ∙ ap (λ (b : Bool). filter (needs_new_name all before) ms ++ cond b (m ∷ []) []) e ∙ append-nil (filter (needs_new_name all before) ms)
+none_needing_more all before ms m e = filter-append (needs_new_name all before) ms (m ∷ []) ∙ ap (λ (b : Bool). filter (needs_new_name all before) ms ++ cond b (m ∷ []) []) e ∙ append-nil (filter (needs_new_name all before) ms)

@@ -1,8 +1,10 @@
 //! The bodies of modules one after another.
 
-ghost use Rattle.std.specs.Prelude.{◌≡◌, IfOk};
+ghost use Rattle.std.specs.Prelude.{◌≡◌, IfOk, option_map};
 ghost use Rattle.bundle_rules.specs.Joined as joined;
-ghost use Rattle.tree_nodes.specs.Views.{items_of};
+ghost use Rattle.tree_nodes.specs.Look.{part_at};
+ghost use Rattle.tree_nodes.specs.Views.{items_of, part_of};
+ghost use Rattle.tree_places.specs.Places.{list_items};
 
 use std::alloc::{AllocError, Global};
 use tree_core::Program;
@@ -12,17 +14,36 @@ use tree_nodes::{Field, FieldList, Kind, Node, NodeList};
 pub(crate) fn body_of(alloc: Global, program: Program) -> Vec<Option<Node>>
     ensures { items_of result.items ≡ joined.body program }
 {
-    let mut fields = program.into_root().fields.into_vec();
-    if fields.is_empty() {
-        return Vec::new(alloc);
+    match first_field(program.into_root().fields) {
+        Some(field) => statements_in(alloc, field),
+        None => Vec::new(alloc),
     }
-    match fields.swap_remove(0) {
+}
+
+// The first field, in place of all.
+fn first_field(fields: FieldList) -> Option<Field>
+    ensures { option_map part_of result ≡ part_at fields 0 }
+{
+    let mut fields = fields.into_vec();
+    if fields.is_empty() {
+        return None;
+    }
+    Some(fields.swap_remove(0))
+}
+
+// The items of a list, in its place.
+#[tactic(auto, unfolding(tree_places::specs::Places::list_items))]
+fn statements_in(alloc: Global, field: Field) -> Vec<Option<Node>>
+    ensures { items_of result.items ≡ list_items (part_of field) }
+{
+    match field {
         Field::List(statements) => statements.into_vec(),
         _ => Vec::new(alloc),
     }
 }
 
 /// The module of these statements. Err is want of memory.
+#[tactic(auto, unfolding(bundle_rules::specs::Joined::module_of))]
 pub(crate) fn module_of(alloc: Global, statements: Vec<Option<Node>>) -> Result<Node, AllocError>
     ensures { IfOk result (λ t. t ≡ joined.module_of (items_of statements.items)) }
 {

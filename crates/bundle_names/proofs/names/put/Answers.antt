@@ -6,9 +6,9 @@ use Rattle.scope_tables.proofs.MarkedSets.{put_number}
 use Rattle.scope_rules.specs.Bindings.{same_name}
 use Rattle.bundle_names.proofs.names.put.Goals as goal
 
-pub returns-in_ok-insert : goal.returns-in_ok-insert
+pub returns : goal.returns
 unfolding same_name
-returns-in_ok-insert c = λ y.
+returns c = λ y.
     c.in_ok-insert.ensures.updates.0 (record { ref_ptr = (0, 0); now = y })
     ∙ ap (λ (b : Bool). cond b true (has_name c.args.names.now y)) (is_eq-slice_cmp c.args.name.now y)
     ∙ put_number (same_name c.args.name.now y) (has_name c.args.names.now y)
