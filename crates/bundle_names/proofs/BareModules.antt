@@ -11,7 +11,8 @@ use Rattle.tree_core.proofs.ReadsBack.{shape_read, tree_fits}
 use Rattle.tree_core.specs.Program.{IsProgram}
 use Rattle.tree_core.specs.Values.{value_of}
 use Rattle.tree_nodes.proofs.EachKind.{kind_told}
-use Rattle.tree_nodes.specs.Standing.{is_placed}
+use Rattle.tree_nodes.specs.Kinds.{is_kind}
+use Rattle.tree_nodes.specs.Standing.{is_placed, is_sound}
 use Rattle.tree_nodes.specs.Table.{Column, inner, node, other, row}
 use Rattle.tree_nodes.specs.Tree.{Atom, Parts, Tree, alone, atom, child, done, empty, flag, is_empty, many, part, text, units, whole, word, word_of}
 use Rattle.tree_nodes.specs.declared.kind.Kind.{Kind}
@@ -92,9 +93,12 @@ module_fields (many items more) key key' g w c f e h =
 
 -- ---- a program
 
+first_of_four : (a b c d : Bool) → (a && b && c && d) ≡ true → a ≡ true
+first_of_four a b c d e = (and_parts a b (and_parts (a && b) c (and_parts (a && b && c) d e).0).0).0
+
 program_kind : (t : Tree) → is_placed t ≡ true → t.kind ≡ Program
 unfolding all_open
-program_kind t p = kind_told t.kind Program (and_parts _ _ p).0
+program_kind t p = kind_told t.kind Program (first_of_four (is_kind t.kind Program) (is_sound t.kind t.fields) _ true p)
 
 pub module_body : (t : Tree) → IsProgram t → is_bare_module t ≡ true → (t.kind ≡ Program) × IsModule t.fields
 unfolding is_bare_module

@@ -1,5 +1,5 @@
 -- What was given, with one new name more.
-use Rattle.std.specs.Prelude.{◌≡◌, ◌≤◌, ◌<◌, ◌+◌, ℕ, suc, Bool, true, false, cond, ◌||◌, IsTrue, IsFalse, List, [], ◌∷◌, ◌++◌, bytes_eq, Option, Some}
+use Rattle.std.specs.Prelude.{◌≡◌, ◌≤◌, ◌<◌, ◌+◌, ℕ, suc, Bool, true, false, cond, ◌&&◌, ◌||◌, IsTrue, IsFalse, List, [], ◌∷◌, ◌++◌, bytes_eq, Option, Some}
 use Rattle.std.specs.BTreeMap.{BTreeMap, get_by}
 use Rattle.std.specs.BTreeSet.{BTreeSet, contains_text}
 use Rattle.std.specs.Option.{unwrap_or}
@@ -7,11 +7,12 @@ use Rattle.std.proofs.Common.{refl, sym, ap, ap₂, subst, ◌∙◌, arith, inl
 use Rattle.std.proofs.lemmas.Bool.{cases_lt, or_right}
 use Rattle.std.proofs.lemmas.List.Folds.{list_any-append}
 use Rattle.bundle_names.proofs.NameSets.{or_assoc, or_false}
-use Rattle.bundle_names.specs.Given.{HoldsGiven, is_taken_by, last_tried}
+use Rattle.bundle_names.specs.Given.{HoldsGiven, is_taken_by, last_tried, needs_by}
 use Rattle.bundle_names.specs.NameSets.{HoldsNames, has_name}
 use Rattle.bundle_names.specs.declared.given.Given.{Given}
 use Rattle.bundle_names.specs.declared.names.Names.{Names}
-use Rattle.bundle_rules.specs.NewNames.{IsLeast, IsNewName, Modules, is_named_in, is_taken, numbered}
+use Rattle.bundle_rules.specs.Mentions.{Mention}
+use Rattle.bundle_rules.specs.NewNames.{IsLeast, IsNewName, Modules, is_named_in, is_taken, needs_new_name, numbered}
 use Rattle.list_laws.proofs.Tests.{tests_agree}
 use Rattle.scope_rules.proofs.SameNames.{same_name_tells}
 use Rattle.scope_rules.specs.Bindings.{same_name}
@@ -22,6 +23,11 @@ use Rattle.tree_nodes.specs.Tree.{Text}
 pub taken_told : (all before : Modules) (given : List Text) (n : Names) (g : Given) → HoldsNames all n → HoldsGiven all before given g → (x : Text) → is_taken_by n g x ≡ is_taken all given x
 unfolding is_taken
 taken_told all before given n g h k x = ap₂ (λ (a b : Bool). a || b) (h.variables x) (k.names x)
+
+-- and so is the other test
+pub needs_told : (all before : Modules) (given : List Text) (n : Names) (g : Given) → HoldsNames all n → HoldsGiven all before given g → (m : Mention) → needs_by n g m ≡ needs_new_name all before m
+unfolding needs_new_name
+needs_told all before given n g h k m = ap₂ (λ (a b : Bool). m.root && (a || b)) (k.roots m.name) (h.unresolved m.name)
 
 among_more : (given : List Text) (y x : Text) → is_among (given ++ y ∷ []) x ≡ (is_among given x || same_name x y)
 unfolding is_among

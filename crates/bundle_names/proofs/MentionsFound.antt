@@ -1,7 +1,7 @@
 -- What is found of a place of a module.
 use Rattle.std.specs.Prelude.{◌≡◌, ◌<◌, ◌+◌, ℕ, Bool, true, false, not, ◌&&◌, ◌||◌, List, [], ◌∷◌, ◌++◌, length, map, take, slice_get, Option, Some, None, is_some}
 use Rattle.std.proofs.Common.{refl, sym, ap, subst, ◌∙◌, arith}
-use Rattle.std.proofs.lemmas.List.{map-append}
+use Rattle.std.proofs.lemmas.List.{length-map}
 use Rattle.bundle_names.specs.Views.{mentions_in}
 use Rattle.bundle_rules.specs.Mentions.{Mention, is_root, mention, mentions}
 use Rattle.place_list.proofs.PlacesStand.{mapped_at}
@@ -11,6 +11,7 @@ use Rattle.place_list.specs.declared.tables.PlaceList.{PlaceList}
 use Rattle.scope_rules.specs.Bindings.{Bound, binding, bound, is_binding, is_node, node, same_name}
 use Rattle.scope_rules.specs.Evals.{is_eval}
 use Rattle.scope_rules.specs.Homes.{declares, home, refers}
+use Rattle.scope_tables.proofs.BoundPlaces.{many_places}
 use Rattle.scope_tables.proofs.Numbers.{Next, none_outside, scope_outwards}
 use Rattle.scope_tables.specs.Views.{IsScope, bound_of}
 use Rattle.scope_tables.specs.declared.bound.BoundPlace.{BoundPlace}
@@ -54,8 +55,12 @@ mention_read t i b e =
     ∙ mapped_at of_bound (bound same_name (places_in t.list)) i (bound_of t.list b) e
 
 -- by what is found of it
-pub mention_is : (p : Place) (b : Option ℕ) (declared referred bound_here at_root called : Bool) → declared ≡ declares p.site → referred ≡ refers p.site → bound_here ≡ is_binding (record { place = p; binding = b })
-    → at_root ≡ is_root (home p.site) → called ≡ is_eval p
-    → mention p b ≡ record { node = node p; name = p.name; binding = b; variable = declared || referred; root = bound_here && at_root; unresolved = referred && not (is_some b); calls_eval = called }
+pub mention_is : (p : Place) (b : Option ℕ) (variable root unresolved called : Bool) → variable ≡ (declares p.site || refers p.site) → root ≡ (is_binding (record { place = p; binding = b }) && is_root (home p.site))
+    → unresolved ≡ (refers p.site && not (is_some b)) → called ≡ is_eval p
+    → mention p b ≡ record { node = node p; name = p.name; binding = b; variable = variable; root = root; unresolved = unresolved; calls_eval = called }
 unfolding mention is_binding
-mention_is p b declared referred bound_here at_root called d r h a c = rw (d, r, h, a, c) refl
+mention_is p b variable root unresolved called v r u c = rw (v, r, u, c) refl
+
+pub many_mentions : (t : ScopeTables) → length (mentions_in t) ≡ length t.list.places.items
+unfolding mentions
+many_mentions t = length-map (places_in t.list) _ ∙ many_places t.list

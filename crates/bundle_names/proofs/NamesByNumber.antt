@@ -52,13 +52,13 @@ from_next k (m ∷ ms) n = go (number_of (suc (suc k)) ms n) (number_of (suc k) 
 -- the number is that of a name
 number_below : (ms : List Mention) (n k : ℕ) → number_of 0 ms n ≡ Some k → k < length ms
 unfolding number_of or_else
-number_below [] n k e = none_some k e
+number_below [] n k e = absurd (none_some k e)
 number_below (m ∷ ms) n k e =
     go (number_of 0 ms n) (nat_eq m.node n) (λ i f. number_below ms n i f) (ap (λ (o : Option ℕ). or_else o (cond (nat_eq m.node n) (Some 0) None)) (sym (from_next 0 ms n)) ∙ e)
   where
     go : (o : Option ℕ) (b : Bool) → ((i : ℕ) → o ≡ Some i → i < length ms) → or_else (option_map suc o) (cond b (Some 0) None) ≡ Some k → k < suc (length ms)
     go None true f g = let z : 0 ≡ k = some_one _ _ g in omega (arith, z)
-    go None false f g = none_some k g
+    go None false f g = absurd (none_some k g)
     go (Some i) b f g = let l : i < length ms = f i refl in let z : suc i ≡ k = some_one _ _ g in omega (arith, l, z)
 
 there : {X : Type 0} (xs : List X) (k : ℕ) → k < length xs → (x : X) × (slice_get xs k ≡ Some x)

@@ -1,16 +1,20 @@
 //! What a place of a module is to its root.
 
-ghost use Rattle.std.specs.Prelude.{◌≡◌, ◌<◌, IfOk, Some, length, map, slice_get};
+ghost use Rattle.std.specs.Prelude.{◌≡◌, ◌<◌, ◌&&◌, ◌||◌, IfOk, Some, is_some, length, map, not, slice_get};
 ghost use Rattle.bundle_names.specs.Views.{mention_view, mentions_in};
 ghost use Rattle.bundle_rules.specs.Mentions as spec;
 ghost use Rattle.place_list.specs.Bounds.{IsBelow, IsBounded};
 ghost use Rattle.place_list.specs.TableViews.{list_view, scope_at};
+ghost use Rattle.place_list.specs.declared.tables.PlaceList as declared;
+ghost use Rattle.scope_rules.specs.Bindings as rules;
+ghost use Rattle.scope_rules.specs.Homes as homes;
+ghost use Rattle.scope_tables.specs.Views.{Stands, bound_of, site_in};
 ghost use Rattle.scope_tables.specs.WholeTree.{AreTables};
 
-use place_list::PlaceList;
+use place_list::{PlaceEntry, PlaceList};
 use scope_marks::is_eval;
 use scope_tables::sites::{declares, home, is_binding, refers};
-use scope_tables::{ScopeTables, bound_place};
+use scope_tables::{BoundPlace, ScopeTables, bound_place};
 use std::alloc::{AllocError, Global};
 
 /// A place of a module.
@@ -43,6 +47,28 @@ fn is_root(list: &PlaceList<'_>, scope: Option<u32>) -> bool
     }
 }
 
+// Whether it declares a variable, or refers to one.
+fn is_variable(place: &PlaceEntry<'_>) -> bool
+    ensures { (l : declared.PlaceList) → result ≡ (homes.declares (site_in l place.now) || homes.refers (site_in l place.now)) }
+{
+    declares(place) || refers(place)
+}
+
+// Whether it is a binding of the root.
+fn binds_in_root(list: &PlaceList<'_>, bound: &BoundPlace<'_>) -> bool
+    requires { Stands list.now bound.now.place }
+    ensures { result ≡ (rules.is_binding (bound_of list.now bound.now) && spec.is_root (homes.home (site_in list.now bound.now.place))) }
+{
+    is_binding(bound) && is_root(list, home(&bound.place))
+}
+
+// Whether it is a reference without a binding.
+fn is_unresolved(bound: &BoundPlace<'_>) -> bool
+    ensures { (l : declared.PlaceList) → result ≡ (homes.refers (site_in l bound.now.place) && not (is_some bound.now.binding)) }
+{
+    refers(&bound.place) && bound.binding.is_none()
+}
+
 // The i-th.
 fn mention_at<'t>(tables: &ScopeTables<'t>, i: usize) -> Mention<'t>
     requires tables { AreTables tables.now }
@@ -51,14 +77,13 @@ fn mention_at<'t>(tables: &ScopeTables<'t>, i: usize) -> Mention<'t>
 {
     let bound = bound_place(tables, i);
     let place = bound.place;
-    let refers = refers(&place);
     Mention {
         node: place.node,
         name: place.name,
         binding: bound.binding,
-        variable: declares(&place) || refers,
-        root: is_binding(&bound) && is_root(&tables.list, home(&place)),
-        unresolved: refers && bound.binding.is_none(),
+        variable: is_variable(&place),
+        root: binds_in_root(&tables.list, &bound),
+        unresolved: is_unresolved(&bound),
         calls_eval: is_eval(&place),
     }
 }

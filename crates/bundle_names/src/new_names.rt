@@ -2,12 +2,11 @@
 
 ghost use Rattle.std.specs.Prelude.{◌≡◌, ◌<◌, ◌^◌, ◌++◌, ◌∷◌, [], IfOk, IsTrue, List, OnOk, length, map, string_bytes};
 ghost use Rattle.std.specs.List.{AllByRecursion};
-ghost use Rattle.bundle_names.specs.Given.{HoldsGiven};
+ghost use Rattle.bundle_names.specs.Given.{HoldsGiven, clashes_by, needs_by};
 ghost use Rattle.bundle_names.specs.NameSets.{HoldsNames};
 ghost use Rattle.bundle_names.specs.NewNames.{AreIdentifiers, AreNew, AreShort, HaveIdentifiers, texts};
 ghost use Rattle.bundle_names.specs.Views.{mention_view, mention_views};
 ghost use Rattle.bundle_rules.specs.Mentions as rules;
-ghost use Rattle.bundle_rules.specs.NewNames as new_names;
 ghost use Rattle.bundle_rules.specs.NewNames.{Modules, needing};
 ghost use Rattle.syntax_lex.specs.Identifier.{is_identifier_name};
 ghost use Rattle.tree_nodes.specs.Tree.{Text};
@@ -26,11 +25,18 @@ pub(crate) struct NewNames {
     pub names: Vec<String>,
 }
 
+// Whether a binding of an earlier root has the name, or a reference without a binding.
+fn clashes(names: &Names<'_>, given: &Given<'_>, name: &str) -> bool
+    ensures { result ≡ clashes_by names.now given.now name.now }
+{
+    given.roots.contains(name) || names.unresolved.contains(name)
+}
+
 // Whether it is a binding that needs a new name.
 fn needs_new_name(names: &Names<'_>, given: &Given<'_>, mention: &Mention<'_>) -> bool
-    ensures { (all before : Modules) (names_given : List Text) → HoldsNames all names.now → HoldsGiven all before names_given given.now → result ≡ new_names.needs_new_name all before (mention_view mention.now) }
+    ensures { result ≡ needs_by names.now given.now (mention_view mention.now) }
 {
-    mention.root && (given.roots.contains(mention.name) || names.unresolved.contains(mention.name))
+    mention.root && clashes(names, given, mention.name)
 }
 
 // Adds the new name of a binding that needs one.
