@@ -21,8 +21,10 @@ use Rattle.tree_nodes.specs.declared.table.Class.{Class as FieldClass}
 use Rattle.tree_nodes.specs.declared.table.Class.TheVariants.{Many, Maybe, Word}
 use Rattle.tree_nodes.specs.declared.table.Group.{Group}
 use Rattle.tree_nodes.specs.declared.table.Words.{Words}
+use Rattle.tree_places.proofs.Blind.{blank_at, word_at}
 use Rattle.tree_places.specs.Open.{all_open}
 use Rattle.tree_places.specs.Places.{list_items}
+use Rattle.tree_places.specs.Renaming.{IsRenamed, blind}
 
 -- which class takes what
 
@@ -100,25 +102,42 @@ program_kind : (t : Tree) → is_placed t ≡ true → t.kind ≡ Program
 unfolding all_open
 program_kind t p = kind_told t.kind Program (first_of_four (is_kind t.kind Program) (is_sound t.kind t.fields) _ true p)
 
-pub module_body : (t : Tree) → IsProgram t → is_bare_module t ≡ true → (t.kind ≡ Program) × IsModule t.fields
-unfolding is_bare_module
-module_body t p b =
+abbrev HasModule : Tree → Type 0
+HasModule t = (t.kind ≡ Program) × IsModule t.fields
+
+module_body : (t : Tree) → IsProgram t → nat_eq (word_of (part t.fields 1)) 1 ≡ true → is_empty (part t.fields 2) ≡ true → HasModule t
+module_body t p source blank =
     let k : t.kind ≡ Program = program_kind t (shape_read (value_of t) t p.0).1 in
     let fits = (tree_fits (value_of t) t p.0).1 in
-    let two : ((nat_eq (word_of (part t.fields 1)) 1 && is_empty (part t.fields 2)) ≡ true) × (not (is_linked (body t)) ≡ true) = and_parts _ _ b in
-    let one : (nat_eq (word_of (part t.fields 1)) 1 ≡ true) × (is_empty (part t.fields 2) ≡ true) = and_parts _ _ two.0 in
-    (k, module_fields t.fields _ _ _ _ _ (subst (λ (l : Kind). FitFields t.fields (row l).columns) k fits) one.0 one.1)
+    (k, module_fields t.fields _ _ _ _ _ (subst (λ (l : Kind). FitFields t.fields (row l).columns) k fits) source blank)
 
-pub bare_module : (t : Tree) → IsProgram t → is_bare_module t ≡ true → IsBare t
+bare_by : (t : Tree) → HasModule t → IsBare t
 unfolding body list_items
-bare_module t p b =
-    let m = module_body t p b in
+bare_by t m =
     let f : t.fields ≡ many m.1.0 (atom (word 1) (atom empty done)) = m.1.2 in
     (m.0, f ∙ ap (λ (x : Parts). many x (atom (word 1) (atom empty done))) (sym (ap (λ (x : Parts). list_items (part x 0)) f)))
 
--- and its statements fit
-pub bare_items : (t : Tree) → IsProgram t → is_bare_module t ≡ true → FitItems (body t) false
-unfolding body list_items
-bare_items t p b =
-    let m = module_body t p b in
-    subst (λ (x : Parts). FitItems x false) (sym (ap (λ (x : Parts). list_items (part x 0)) m.1.2)) m.1.1
+pub bare_module : (t : Tree) → IsProgram t → is_bare_module t ≡ true → IsBare t
+unfolding is_bare_module
+bare_module t p b =
+    let two : ((nat_eq (word_of (part t.fields 1)) 1 && is_empty (part t.fields 2)) ≡ true) × (not (is_linked (body t)) ≡ true) = and_parts _ _ b in
+    let one : (nat_eq (word_of (part t.fields 1)) 1 ≡ true) × (is_empty (part t.fields 2) ≡ true) = and_parts _ _ two.0 in
+    bare_by t (module_body t p one.0 one.1)
+
+-- ---- renamed
+
+fields_blind : (x y : Parts) (s e s' e' : ℕ) → blind (child Program s e x done) ≡ blind (child Program s' e' y done) → blind x ≡ blind y
+unfolding all_open
+fields_blind x y s e s' e' h = cc
+
+pub renamed_bare : (t u : Tree) → IsBare t → IsProgram u → IsRenamed (alone t) (alone u) → IsBare u
+renamed_bare t u b p r =
+    let k : u.kind ≡ Program = program_kind u (shape_read (value_of u) u p.0).1 in
+    let same : blind u.fields ≡ blind t.fields =
+    fields_blind u.fields t.fields u.start u.stop t.start t.stop
+    (sym (ap (λ (l : Kind). blind (child l u.start u.stop u.fields done)) k) ∙ r.alike ∙ ap (λ (l : Kind). blind (child l t.start t.stop t.fields done)) b.0) in
+    let source : word_of (part u.fields 1) ≡ word_of (part t.fields 1) = sym (word_at u.fields 1) ∙ ap (λ (x : Parts). word_of (part x 1)) same ∙ word_at t.fields 1 in
+    let blank : is_empty (part u.fields 2) ≡ is_empty (part t.fields 2) = sym (blank_at u.fields 2) ∙ ap (λ (x : Parts). is_empty (part x 2)) same ∙ blank_at t.fields 2 in
+    bare_by u (module_body u p
+      (ap (λ (n : ℕ). nat_eq n 1) (source ∙ ap (λ (x : Parts). word_of (part x 1)) b.1))
+      (blank ∙ ap (λ (x : Parts). is_empty (part x 2)) b.1))

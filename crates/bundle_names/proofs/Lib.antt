@@ -1,6 +1,8 @@
 -- what is found of a place
 pub mod MentionsFound
 pub mod LinkedItems
+-- what is asked of all modules
+pub mod SurveyedModules
 -- sets of names
 pub mod NameSets
 -- new names, and names by their numbers

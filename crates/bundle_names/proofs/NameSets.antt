@@ -1,12 +1,14 @@
 -- Sets with the names of one mention more, and of one module more.
-use Rattle.std.specs.Prelude.{◌≡◌, ◌+◌, ℕ, Bool, true, false, cond, ◌&&◌, ◌||◌, List, [], ◌∷◌, ◌++◌, map, take, slice_get, Option, Some}
+use Rattle.std.specs.Prelude.{◌≡◌, ◌<◌, ◌+◌, ℕ, length, get_or, Bool, true, false, cond, ◌&&◌, ◌||◌, List, [], ◌∷◌, ◌++◌, map, take}
 use Rattle.std.specs.BTreeSet.{BTreeSet}
 use Rattle.std.specs.Borrow.{Bor}
 use Rattle.std.specs.List.{list_any}
-use Rattle.std.proofs.Common.{refl, sym, ap, ap₂, ◌∙◌}
-use Rattle.std.proofs.lemmas.List.{map-append}
+use Rattle.std.proofs.Common.{refl, sym, ap, subst, ◌∙◌}
+use Rattle.std.proofs.lemmas.List.{map_more}
 use Rattle.std.proofs.lemmas.List.Folds.{list_any-append}
 use Rattle.bundle_names.specs.NameSets.{Puts, PutsAll, has_name, passes}
+use Rattle.bundle_names.specs.Views.{mention_view, mention_views}
+use Rattle.bundle_names.specs.declared.mention.Mention as declared
 use Rattle.bundle_names.specs.declared.names.Use.{Use}
 use Rattle.bundle_rules.specs.Mentions.{Mention}
 use Rattle.bundle_rules.specs.NewNames.{Modules, is_named, is_named_in}
@@ -45,6 +47,20 @@ module _ (u : Use) (old now new : BTreeSet (Bor Text)) (ms : List Mention) (m : 
   not_put before p y =
       before y ∙ ap (λ (b : Bool). has_name old y || b)
       (sym (or_false (is_named (passes u) ms y)) ∙ ap (λ (b : Bool). is_named (passes u) ms y || (b && same_name m.name y)) (sym p) ∙ sym (one_named_more (passes u) ms m y))
+
+-- so along a list of mentions in the code
+module _ (u : Use) (old now : BTreeSet (Bor Text)) where
+  pub named_more : (new : BTreeSet (Bor Text)) (ms : List declared.Mention) (i : ℕ) (d : declared.Mention) → i < length ms → PutsAll u old (mention_views (take i ms)) now
+      → (b : Bool) → b ≡ passes u (mention_view (get_or ms i d)) → b ≡ true → Puts now (get_or ms i d).name.now new → PutsAll u old (mention_views (take (i + 1) ms)) new
+  named_more new ms i d h before b is yes put =
+      subst (λ (qs : List Mention). PutsAll u old qs new) (sym (map_more mention_view ms i d h))
+      (named_put u old now new (mention_views (take i ms)) (mention_view (get_or ms i d)) before (sym is ∙ yes) put)
+
+  pub unnamed_more : (ms : List declared.Mention) (i : ℕ) (d : declared.Mention) → i < length ms → PutsAll u old (mention_views (take i ms)) now
+      → (b : Bool) → b ≡ passes u (mention_view (get_or ms i d)) → b ≡ false → PutsAll u old (mention_views (take (i + 1) ms)) now
+  unnamed_more ms i d h before b is no =
+      subst (λ (qs : List Mention). PutsAll u old qs now) (sym (map_more mention_view ms i d h))
+      (not_put u old now now (mention_views (take i ms)) (mention_view (get_or ms i d)) before (sym is ∙ no))
 
 -- the names of one module more
 pub module_put : (u : Use) (old new : BTreeSet (Bor Text)) (all : Modules) (ms : List Mention) → ((x : Text) → has_name old x ≡ is_named_in (passes u) all x) → PutsAll u old ms new

@@ -147,16 +147,17 @@ module _ (ps : List Place) (s : Site) (plain : is_plain s ≡ true) where
   unfolding is_plain
   plain_unbound p e = let two = and_parts _ _ plain in by_role s.setting.role refl two.1 (not_true s.private two.0) p e
 
-spared : (needing : List Mention) (all ps : List Place) → spare_plain (map (λ (p : Place). p.site) ps) (map (choice needing) (all_mentions all ps)) ≡ true
+-- so it keeps its name, whatever numbers bindings have
+spared : (f : ℕ → Option ℕ) (all ps : List Place) → spare_plain (map (λ (p : Place). p.site) ps) (map (λ (m : Mention). option_and_then f m.binding) (all_mentions all ps)) ≡ true
 unfolding spare_plain all_mentions mention
-spared needing all [] = refl
-spared needing all (p ∷ ps) = and_from _ _ (go (is_plain p.site) refl) (spared needing all ps)
+spared f all [] = refl
+spared f all (p ∷ ps) = and_from _ _ (go (is_plain p.site) refl) (spared f all ps)
   where
-    go : (b : Bool) → is_plain p.site ≡ b → (not b || not (is_some (option_and_then (number_of 0 needing) (binding same_name all p)))) ≡ true
-    go true e = ap (λ (o : Option ℕ). not (is_some (option_and_then (number_of 0 needing) o))) (plain_unbound all p.site e p refl)
+    go : (b : Bool) → is_plain p.site ≡ b → (not b || not (is_some (option_and_then f (binding same_name all p)))) ≡ true
+    go true e = ap (λ (o : Option ℕ). not (is_some (option_and_then f o))) (plain_unbound all p.site e p refl)
     go false e = refl
 
-pub plain_spared : (needing : List Mention) (t : Parts) → spare_plain (sites t) (map (choice needing) (mentions (places t))) ≡ true
+pub plain_spared : (f : ℕ → Option ℕ) (t : Parts) → spare_plain (sites t) (map (λ (m : Mention). option_and_then f m.binding) (mentions (places t))) ≡ true
 unfolding mentions all_mentions places
-plain_spared needing t =
-    ap (λ (ss : List Site). spare_plain ss (map (choice needing) (mentions (places t)))) (sym (sites_of_named (sites t) (names t) (one_name_each t))) ∙ spared needing (places t) (places t)
+plain_spared f t =
+    ap (λ (ss : List Site). spare_plain ss (map (λ (m : Mention). option_and_then f m.binding) (mentions (places t)))) (sym (sites_of_named (sites t) (names t) (one_name_each t))) ∙ spared f (places t) (places t)

@@ -21,6 +21,7 @@ struct Untaken {
 }
 
 // The name, `$` and the number.
+#[tactic(auto, unfolding(bundle_rules::specs::NewNames::numbered))]
 fn numbered(alloc: Global, name: &str, number: u32) -> Result<String, AllocError>
     ensures { IfOk result (λ s. string_bytes s ≡ new.numbered name.now number) }
 {

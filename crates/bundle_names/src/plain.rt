@@ -1,32 +1,40 @@
 //! Which modules can be put into one scope with others.
 
-ghost use Rattle.std.specs.Prelude.{◌≡◌, ◌&&◌, map, not};
+ghost use Rattle.std.specs.Prelude.{◌≡◌, ◌&&◌, length, map, nat_eq, not};
 ghost use Rattle.std.specs.List.{list_any};
 ghost use Rattle.bundle_names.specs.Views.{mention_view};
-ghost use Rattle.bundle_rules.specs.Joined as joined;
 ghost use Rattle.bundle_rules.specs.Plain as spec;
 ghost use Rattle.tree_nodes.specs.Kinds.{is_in};
 ghost use Rattle.tree_nodes.specs.Standing.{module_declarations};
+ghost use Rattle.tree_nodes.specs.Tree.{part};
 ghost use Rattle.tree_nodes.specs.Views.{item_of, part_of};
 ghost use Rattle.tree_places.specs.Places.{list_items};
 
 use crate::mention::Mention;
 use tree_nodes::roles::{empty_at, word_at};
-use tree_nodes::{Field, Kind, Node, NodeList};
+use tree_nodes::{Field, FieldList, Kind, Node, NodeList};
 
-/// Whether its source is a module without a hashbang, and nothing in it imports or exports.
-#[tactic(auto, unfolding(bundle_rules::specs::Plain::is_bare_module, bundle_rules::specs::Joined::body))]
-pub(crate) fn is_bare_module(root: &Node) -> bool
-    ensures { result ≡ spec.is_bare_module root.now }
+/// Whether a module can be put into one scope with others, of which these are the mentions, and these the scopes
+/// around its WithStatements.
+pub(crate) fn is_plain(root: &Node, withs: &[Option<u32>], mentions: &[Mention<'_>]) -> bool
+    ensures { result ≡ (spec.is_bare_module root.now && nat_eq (length withs.now) 0 && not (list_any spec.is_barred (map mention_view mentions.now))) }
 {
-    word_at(&root.fields, 1) == 1 && empty_at(&root.fields, 2) && !has_linked(root)
+    is_bare_module(root) && withs.is_empty() && !has_barred(mentions)
 }
 
-// Whether a statement of its body imports or exports.
-fn has_linked(root: &Node) -> bool
-    ensures { result ≡ spec.is_linked (joined.body root.now) }
+// Whether its source is a module without a hashbang, and nothing in it imports or exports.
+#[tactic(auto, unfolding(bundle_rules::specs::Plain::is_bare_module, bundle_rules::specs::Joined::body))]
+fn is_bare_module(root: &Node) -> bool
+    ensures { result ≡ spec.is_bare_module root.now }
 {
-    match root.fields.get(0) {
+    word_at(&root.fields, 1) == 1 && empty_at(&root.fields, 2) && !has_linked(&root.fields)
+}
+
+// Whether one of the items of the first field imports or exports.
+fn has_linked(fields: &FieldList) -> bool
+    ensures { result ≡ spec.is_linked (list_items (part fields.now 0)) }
+{
+    match fields.get(0) {
         Some(field) => has_linked_in(field),
         None => false,
     }
@@ -90,8 +98,8 @@ fn is_barred(mention: &Mention<'_>) -> bool
         || mention.calls_eval
 }
 
-/// Whether one of them does.
-pub(crate) fn has_barred(mentions: &[Mention<'_>]) -> bool
+// Whether one of them does.
+fn has_barred(mentions: &[Mention<'_>]) -> bool
     ensures { result ≡ list_any spec.is_barred (map mention_view mentions.now) }
 {
     for mention in mentions {

@@ -11,7 +11,7 @@ ghost use Rattle.tree_places.specs.Places.{places, withs};
 
 use crate::error::BundleError;
 use crate::mention::{Mention, mentions};
-use crate::plain::{has_barred, is_bare_module};
+use crate::plain::is_plain;
 use place_list::{PlaceList, list_places};
 use scope_tables::ScopeTables;
 use std::alloc::{AllocError, Global};
@@ -45,9 +45,7 @@ fn module_of<'t>(
 {
     let tables = ScopeTables::from_list(alloc, list)?;
     let mentions = mentions(alloc, &tables)?;
-    let plain = is_bare_module(root)
-        && tables.list.withs.is_empty()
-        && !has_barred(mentions.as_slice());
+    let plain = is_plain(root, tables.list.withs.as_slice(), mentions.as_slice());
     Ok(Module {
         mentions,
         faulty: tables.has_fault(),
@@ -79,7 +77,7 @@ pub(crate) fn survey<'t>(
     for module in modules {
         let root = module.root();
         let list = list_places(alloc, root)?;
-        nodes = nodes.saturating_add(list.nodes as usize);
+        nodes += list.nodes as usize;
         if nodes >= NODES {
             return Err(BundleError::TooLarge);
         }

@@ -25,9 +25,9 @@ pub loop-i-preserved : goal.loop-i-preserved
 loop-i-preserved c =
     let all = c.args.modules.now in
     let i = c.loop-i.i in
-    let m = c.index-modules-i.result in
+    let m = get_or all i c.index-modules-i.result in
     let read : modules_in (take (i + 1) all) ≡ modules_in (take i all) ++ module_view m ∷ [] =
-    map_more module_view all i m c.loop-i-test.true ∙ ap (λ (q : Module). modules_in (take i all) ++ module_view q ∷ []) (sym c.index-modules-i.is) in
+    map_more module_view all i c.index-modules-i.result c.loop-i-test.true in
     let value = ap mention_views c.as_slice-mentions.ensures.value in
     subst (λ (ms : Modules). HoldsNames ms (record { variables = c.put_names.new.names; unresolved = c.put_names-in-loop-i.new.names })) (sym read) (record {
       variables = module_put Variable c.loop-i.names.variables c.put_names.new.names (modules_in (take i all)) (module_view m) c.loop-i.invariant.variables

@@ -1,0 +1,79 @@
+-- What is asked of each module, with one module more, and what is so found of all.
+use Rattle.std.specs.Prelude.{◌≡◌, ◌≤◌, ◌<◌, ◌+◌, ◌^◌, ℕ, Bool, true, false, List, [], ◌∷◌, ◌++◌, map, sum, length, take, get_or}
+use Rattle.std.specs.List.{list_all, list_any, sum_by}
+use Rattle.std.proofs.Common.{refl, sym, ap, ap₂, ◌∙◌, arith}
+use Rattle.std.proofs.lemmas.Bool.{le-leb, leb-false, lt-leb}
+use Rattle.std.proofs.lemmas.List.{map-append, map_more}
+use Rattle.std.proofs.lemmas.List.Folds.{list_all-map}
+use Rattle.std.proofs.lemmas.List.Sums.{sum-map, sum_by-take-le, sum_by_more}
+use Rattle.bundle_names.specs.Causes.{AreModulesOf, IsModuleOf, are_plain, are_too_large, have_fault, is_faulty}
+use Rattle.bundle_names.specs.Views.{module_view, modules_in}
+use Rattle.bundle_names.specs.declared.survey.Module.{Module}
+use Rattle.bundle_rules.proofs.Counted.{walk_nodes}
+use Rattle.bundle_rules.specs.Bundles.{modules_of}
+use Rattle.bundle_rules.specs.Mentions.{Mention, mentions_of}
+use Rattle.bundle_rules.specs.NewNames.{Modules}
+use Rattle.bundle_rules.specs.Plain.{is_plain_module}
+use Rattle.list_laws.proofs.AnyOf.{any_map}
+use Rattle.tree_nodes.specs.Along.{all}
+use Rattle.tree_nodes.specs.NodeCount.{node_count}
+use Rattle.tree_nodes.specs.Table.{unlisted}
+use Rattle.tree_nodes.specs.Tree.{Tree, alone}
+use Rattle.tree_places.specs.Open.{all_open}
+use Rattle.tree_places.specs.Places.{before_all, nothing_yet, seen}
+
+-- ---- how many nodes
+
+pub nodes_counted : (t : Tree) → (seen (alone t)).nodes ≡ node_count t
+unfolding all_open
+nodes_counted t = let e = walk_nodes (alone t) (all unlisted) before_all nothing_yet in omega (arith, e)
+
+abbrev nodes_of : List Tree → ℕ
+nodes_of ts = sum (map node_count ts)
+
+pub nodes_more : (ts : List Tree) (i : ℕ) (t : Tree) → i < length ts → t ≡ get_or ts i t → nodes_of (take (i + 1) ts) ≡ nodes_of (take i ts) + node_count t
+nodes_more ts i t h e =
+    sum-map node_count (take (i + 1) ts) ∙ sum_by_more node_count ts i t h
+    ∙ ap₂ (λ (n k : ℕ). n + k) (sym (sum-map node_count (take i ts))) (ap node_count (sym e))
+
+pub few_in_all : (ts : List Tree) → nodes_of ts < 2 ^ 30 → are_too_large ts ≡ false
+unfolding are_too_large
+few_in_all ts h = lt-leb (2 ^ 30) (nodes_of ts) h
+
+pub few_by_test : (ts : List Tree) → are_too_large ts ≡ false → sum_by node_count ts < 2 ^ 30
+unfolding are_too_large
+few_by_test ts e =
+    let some : nodes_of ts < 2 ^ 30 = leb-false (2 ^ 30) (nodes_of ts) e in
+    let every : nodes_of ts ≡ sum_by node_count ts = sum-map node_count ts in
+    omega (arith, some, every)
+
+pub many_in_all : (ts : List Tree) (i : ℕ) → 2 ^ 30 ≤ nodes_of (take i ts) → are_too_large ts ≡ true
+unfolding are_too_large
+many_in_all ts i h =
+    let part : sum_by node_count (take i ts) ≤ sum_by node_count ts = sum_by-take-le node_count ts i in
+    let some : nodes_of (take i ts) ≡ sum_by node_count (take i ts) = sum-map node_count (take i ts) in
+    let every : nodes_of ts ≡ sum_by node_count ts = sum-map node_count ts in
+    le-leb (2 ^ 30) (nodes_of ts) (omega (arith, part, some, every, h))
+
+-- ---- what is asked
+
+pub one_surveyed_more : (ts : List Tree) (i : ℕ) (t : Tree) (ms new : List Module) (m : Module) → i < length ts → t ≡ get_or ts i t → AreModulesOf (take i ts) ms → IsModuleOf t m → new ≡ ms ++ m ∷ [] → AreModulesOf (take (i + 1) ts) new
+one_surveyed_more ts i t ms new m h e are is put = record {
+  mentions = more module_view mentions_of are.mentions is.mentions;
+  faulty = more (λ (q : Module). q.faulty) is_faulty are.faulty is.faulty;
+  plain = more (λ (q : Module). q.plain) is_plain_module are.plain is.plain;
+}
+  where
+    more : {X : Type 0} (f : Module → X) (g : Tree → X) → map f ms ≡ map g (take i ts) → f m ≡ g t → map f new ≡ map g (take (i + 1) ts)
+    more {X = X} f g all here =
+        ap (map f) put ∙ map-append f ms (m ∷ []) ∙ ap₂ (λ (xs : List X) (x : X). xs ++ x ∷ []) all (here ∙ ap g e) ∙ sym (map_more g ts i t h)
+
+pub fault_told : (ts : List Tree) (ms : List Module) → AreModulesOf ts ms → list_any (λ m. m.faulty) ms ≡ have_fault ts
+unfolding have_fault
+fault_told ts ms are =
+    sym (any_map (λ (m : Module). m.faulty) (λ b. b) ms) ∙ ap (list_any (λ b. b)) are.faulty ∙ any_map is_faulty (λ b. b) ts
+
+pub plain_told : (ts : List Tree) (ms : List Module) → AreModulesOf ts ms → list_all (λ m. m.plain) ms ≡ are_plain ts
+unfolding are_plain
+plain_told ts ms are =
+    sym (list_all-map (λ b. b) (λ (m : Module). m.plain) ms) ∙ ap (list_all (λ b. b)) are.plain ∙ list_all-map (λ b. b) is_plain_module ts
