@@ -15,4 +15,5 @@ pub mod NewNamesInTurn
 pub mod BareModules
 pub mod JoinedPrograms
 pub mod BodiesInTurn
+pub mod ModulesInTurn
 pub mod Bundled

@@ -1,13 +1,17 @@
 -- The new names of a module.
-use Rattle.std.specs.Prelude.{◌≡◌, ◌<◌, ◌^◌, ℕ, IsTrue, List, String, length, map, Option, option_and_then, string_bytes}
+use Rattle.std.specs.Prelude.{◌≡◌, ◌<◌, ◌^◌, ◌++◌, ℕ, IsTrue, List, String, length, map, Option, option_and_then, string_bytes}
 use Rattle.std.specs.BTreeMap.{BTreeMap, get_by}
 use Rattle.std.specs.Ordering.{nat_cmp}
 use Rattle.std.specs.Global.{Global}
 use Rattle.std.specs.List.{AllByRecursion}
 use Rattle.bundle_names.specs.Numbers.{number_of}
+use Rattle.bundle_names.specs.Given.{HoldsGiven}
+use Rattle.bundle_names.specs.NameSets.{HoldsNames}
+use Rattle.bundle_names.specs.declared.given.Given.{Given}
+use Rattle.bundle_names.specs.declared.names.Names.{Names}
 use Rattle.bundle_names.specs.declared.new_names.NewNames.{NewNames}
 use Rattle.bundle_rules.specs.Mentions.{Mention}
-use Rattle.bundle_rules.specs.NewNames.{AreNewNames, Modules}
+use Rattle.bundle_rules.specs.NewNames.{AreNewNames, Modules, needing}
 use Rattle.syntax_lex.specs.Identifier.{is_identifier_name}
 use Rattle.tree_nodes.specs.Tree.{Text}
 
@@ -37,3 +41,10 @@ HaveIdentifiers ms = AllByRecursion (λ m. IsTrue (is_identifier_name m.name)) m
 -- each has at most 4,294,967,295 bytes
 abbrev pub AreShort : List (String Global) → Type 0
 AreShort ss = AllByRecursion (λ s. length (string_bytes s) < 2 ^ 32) ss
+
+-- those of the mentions so far, of all these, with what was given at the start and now
+pub record NewSoFar (names : Names) (start : Given) (mentions seen : List Mention) (n : NewNames) (now : Given) : Type 0 where
+  pub new : (all before : Modules) (given : List Text) → HoldsNames all names → HoldsGiven all before given start → AreNew all given (needing all before seen) n
+  pub given : (all before : Modules) (given : List Text) → HoldsNames all names → HoldsGiven all before given start → HoldsGiven all before (given ++ texts n) now
+  pub identifiers : HaveIdentifiers mentions → AreIdentifiers n.names.items
+  pub short : AreShort n.names.items

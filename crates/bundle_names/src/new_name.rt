@@ -46,6 +46,7 @@ fn find_untaken(
 ) -> Result<Untaken, AllocError>
     ensures name { IfOk result (λ r. string_bytes r.name ≡ new.numbered name.now r.number) }
     ensures later { IfOk result (λ r. tried < r.number) }
+    ensures small { IfOk result (λ r. r.number < 2 ^ 32) }
     ensures free { IfOk result (λ r. IsFalse (is_taken_by names.now given.now (new.numbered name.now r.number))) }
     ensures least { IfOk result (λ r. (j : ℕ) → tried < j → j < r.number → IsTrue (is_taken_by names.now given.now (new.numbered name.now j))) }
 {

@@ -4,10 +4,10 @@ ghost use Rattle.std.specs.Prelude.{◌≡◌, ◌<◌, ◌^◌, ◌++◌, ◌�
 ghost use Rattle.std.specs.List.{AllByRecursion};
 ghost use Rattle.bundle_names.specs.Given.{HoldsGiven, clashes_by, needs_by};
 ghost use Rattle.bundle_names.specs.NameSets.{HoldsNames};
-ghost use Rattle.bundle_names.specs.NewNames.{AreIdentifiers, AreNew, AreShort, HaveIdentifiers, texts};
+ghost use Rattle.bundle_names.specs.NewNames.{AreIdentifiers, AreNew, AreShort, NewSoFar, texts};
 ghost use Rattle.bundle_names.specs.Views.{mention_view, mention_views};
 ghost use Rattle.bundle_rules.specs.Mentions as rules;
-ghost use Rattle.bundle_rules.specs.NewNames.{Modules, needing};
+ghost use Rattle.bundle_rules.specs.NewNames.{Modules};
 ghost use Rattle.syntax_lex.specs.Identifier.{is_identifier_name};
 ghost use Rattle.tree_nodes.specs.Tree.{Text};
 
@@ -69,10 +69,7 @@ pub(crate) fn new_names<'t>(
     given: &mut Given<'t>,
     mentions: &[Mention<'t>],
 ) -> Result<NewNames, AllocError>
-    ensures new { IfOk result (λ n. (all before : Modules) (names_given : List Text) → HoldsNames all names.now → HoldsGiven all before names_given given.old → AreNew all names_given (needing all before (mention_views mentions.now)) n) }
-    ensures given { IfOk result (λ n. (all before : Modules) (names_given : List Text) → HoldsNames all names.now → HoldsGiven all before names_given given.old → HoldsGiven all before (names_given ++ texts n) given.new) }
-    ensures identifiers { IfOk result (λ n. HaveIdentifiers (mention_views mentions.now) → AreIdentifiers n.names.items) }
-    ensures short { IfOk result (λ n. AreShort n.names.items) }
+    ensures { IfOk result (λ n. NewSoFar names.now given.old (mention_views mentions.now) (mention_views mentions.now) n given.new) }
 {
     let mut new = NewNames {
         numbers: BTreeMap::new(alloc),
