@@ -52,15 +52,15 @@ module _ (u : Use) (old now new : BTreeSet (Bor Text)) (ms : List Mention) (m : 
 module _ (u : Use) (old now : BTreeSet (Bor Text)) where
   pub named_more : (new : BTreeSet (Bor Text)) (ms : List declared.Mention) (i : ℕ) (d : declared.Mention) → i < length ms → PutsAll u old (mention_views (take i ms)) now
       → (b : Bool) → b ≡ passes u (mention_view (get_or ms i d)) → b ≡ true → Puts now (get_or ms i d).name.now new → PutsAll u old (mention_views (take (i + 1) ms)) new
-  named_more new ms i d h before b is yes put =
+  named_more new ms i d h before b is used put =
       subst (λ (qs : List Mention). PutsAll u old qs new) (sym (map_more mention_view ms i d h))
-      (named_put u old now new (mention_views (take i ms)) (mention_view (get_or ms i d)) before (sym is ∙ yes) put)
+      (named_put u old now new (mention_views (take i ms)) (mention_view (get_or ms i d)) before (sym is ∙ used) put)
 
   pub unnamed_more : (ms : List declared.Mention) (i : ℕ) (d : declared.Mention) → i < length ms → PutsAll u old (mention_views (take i ms)) now
       → (b : Bool) → b ≡ passes u (mention_view (get_or ms i d)) → b ≡ false → PutsAll u old (mention_views (take (i + 1) ms)) now
-  unnamed_more ms i d h before b is no =
+  unnamed_more ms i d h before b is unused =
       subst (λ (qs : List Mention). PutsAll u old qs now) (sym (map_more mention_view ms i d h))
-      (not_put u old now now (mention_views (take i ms)) (mention_view (get_or ms i d)) before (sym is ∙ no))
+      (not_put u old now now (mention_views (take i ms)) (mention_view (get_or ms i d)) before (sym is ∙ unused))
 
 -- the names of one module more
 pub module_put : (u : Use) (old new : BTreeSet (Bor Text)) (all : Modules) (ms : List Mention) → ((x : Text) → has_name old x ≡ is_named_in (passes u) all x) → PutsAll u old ms new

@@ -1,5 +1,8 @@
 -- The new names of a module, with one more.
 use Rattle.std.specs.Prelude.{◌≡◌, ◌<◌, ℕ, suc, ◌+◌, Bool, true, false, cond, take, get_or, string_bytes, IsTrue, List, [], ◌∷◌, ◌++◌, map, filter, length, nat_eq, Option, Some}
+use Rattle.std.specs.BTreeMap.{is_at}
+use Rattle.std.specs.Map.{lookup}
+use Rattle.std.specs.Ordering.{nat_cmp}
 use Rattle.std.proofs.Common.{refl, sym, ap, subst, ◌∙◌, arith}
 use Rattle.std.proofs.lemmas.List.{append-nil, get_or_default, map_more}
 use Rattle.std.proofs.lemmas.List.Elements.{filter-append}
@@ -45,7 +48,7 @@ pub none_new : (all : Modules) (given : List Text) (n : NewNames) → n.names.it
 unfolding number_of
 none_new all given n e f = record {
   named = subst (AreNewNames all given []) (sym (ap (map string_bytes) e)) tt;
-  numbered = λ k. ap (λ (es : List (ℕ × ℕ)). at_node (record { entries = es }) k) f;
+  numbered = λ k. ap (lookup (is_at (nat_cmp k))) f;
 }
 
 module _ (names : Names) (start : Given) (ms : List declared.Mention) (i : ℕ) (d : declared.Mention) (h : i < length ms) (old : NewNames) (now : Given) (so_far : NewSoFar names start (mention_views ms) (mention_views (take i ms)) old now)
@@ -58,10 +61,10 @@ module _ (names : Names) (start : Given) (ms : List declared.Mention) (i : ℕ) 
   one_seen_more = map_more mention_view ms i d h
 
   pub not_added : b ≡ false → NewSoFar names start (mention_views ms) (mention_views (take (i + 1) ms)) old now
-  not_added no = record {
+  not_added keeps = record {
     new = λ all before given hn hg.
         subst (λ (qs : List Mention). AreNew all given qs old)
-        (sym (ap (needing all before) one_seen_more ∙ none_needing_more all before (mention_views (take i ms)) (mention_view (get_or ms i d)) (told all before given hn hg ∙ no)))
+        (sym (ap (needing all before) one_seen_more ∙ none_needing_more all before (mention_views (take i ms)) (mention_view (get_or ms i d)) (told all before given hn hg ∙ keeps)))
         (so_far.new all before given hn hg);
     given = so_far.given;
     identifiers = so_far.identifiers;
@@ -74,12 +77,12 @@ module _ (names : Names) (start : Given) (ms : List declared.Mention) (i : ℕ) 
       → (IsTrue (is_identifier_name (get_or ms i d).name.now) → AreIdentifiers old.names.items → AreIdentifiers new.names.items)
       → (AreShort old.names.items → AreShort new.names.items)
       → NewSoFar names start (mention_views ms) (mention_views (take (i + 1) ms)) new after
-  added yes new after put give identifiers short = record {
+  added needs new after put give identifiers short = record {
     new = λ all before given hn hg.
         subst (λ (qs : List Mention). AreNew all given qs new)
-        (sym (ap (needing all before) one_seen_more ∙ one_needing_more all before (mention_views (take i ms)) (mention_view (get_or ms i d)) (told all before given hn hg ∙ yes)))
+        (sym (ap (needing all before) one_seen_more ∙ one_needing_more all before (mention_views (take i ms)) (mention_view (get_or ms i d)) (told all before given hn hg ∙ needs)))
         (put all before given (needing all before (mention_views (take i ms))) hn (so_far.given all before given hn hg) (so_far.new all before given hn hg));
     given = λ all before given hn hg. give all before given hn (so_far.given all before given hn hg);
-    identifiers = λ all. identifiers (all_at (λ (m : Mention). IsTrue (is_identifier_name m.name)) (mention_views ms) i (mention_view (get_or ms i d)) all (mapped_at mention_view ms i (get_or ms i d) (read_at ms i (get_or ms i d) h (get_or_default ms i (get_or ms i d) d h)))) (so_far.identifiers all);
+    identifiers = λ given. identifiers (all_at (λ (m : Mention). IsTrue (is_identifier_name m.name)) (mention_views ms) i (mention_view (get_or ms i d)) given (mapped_at mention_view ms i (get_or ms i d) (read_at ms i (get_or ms i d) h (get_or_default ms i (get_or ms i d) d h)))) (so_far.identifiers given);
     short = short so_far.short;
   }

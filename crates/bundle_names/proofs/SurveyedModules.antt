@@ -1,26 +1,29 @@
 -- What is asked of each module, with one module more, and what is so found of all.
-use Rattle.std.specs.Prelude.{◌≡◌, ◌≤◌, ◌<◌, ◌+◌, ◌^◌, ℕ, Bool, true, false, List, [], ◌∷◌, ◌++◌, map, sum, length, take, get_or}
+use Rattle.std.specs.Prelude.{◌≡◌, ◌≤◌, ◌<◌, ◌+◌, ◌^◌, ℕ, Bool, true, false, ◌&&◌, not, nat_eq, List, [], ◌∷◌, ◌++◌, map, sum, length, take, get_or}
 use Rattle.std.specs.List.{list_all, list_any, sum_by}
 use Rattle.std.proofs.Common.{refl, sym, ap, ap₂, ◌∙◌, arith}
 use Rattle.std.proofs.lemmas.Bool.{le-leb, leb-false, lt-leb}
-use Rattle.std.proofs.lemmas.List.{map-append, map_more}
+use Rattle.std.proofs.lemmas.List.{length-map, map-append, map_more}
 use Rattle.std.proofs.lemmas.List.Folds.{list_all-map}
 use Rattle.std.proofs.lemmas.List.Sums.{sum-map, sum_by-take-le, sum_by_more}
 use Rattle.bundle_names.specs.Causes.{AreModulesOf, IsModuleOf, are_plain, are_too_large, have_fault, is_faulty}
-use Rattle.bundle_names.specs.Views.{module_view, modules_in}
+use Rattle.bundle_names.specs.Views.{mention_views, module_view, modules_in}
+use Rattle.bundle_names.specs.declared.mention.Mention as declared
 use Rattle.bundle_names.specs.declared.survey.Module.{Module}
 use Rattle.bundle_rules.proofs.Counted.{walk_nodes}
 use Rattle.bundle_rules.specs.Bundles.{modules_of}
 use Rattle.bundle_rules.specs.Mentions.{Mention, mentions_of}
 use Rattle.bundle_rules.specs.NewNames.{Modules}
-use Rattle.bundle_rules.specs.Plain.{is_plain_module}
+use Rattle.bundle_rules.specs.Plain.{is_bare_module, is_barred, is_plain_module}
 use Rattle.list_laws.proofs.AnyOf.{any_map}
+use Rattle.place_list.specs.TableViews.{withs_in}
+use Rattle.place_list.specs.declared.tables.PlaceList.{PlaceList}
 use Rattle.tree_nodes.specs.Along.{all}
 use Rattle.tree_nodes.specs.NodeCount.{node_count}
 use Rattle.tree_nodes.specs.Table.{unlisted}
 use Rattle.tree_nodes.specs.Tree.{Tree, alone}
 use Rattle.tree_places.specs.Open.{all_open}
-use Rattle.tree_places.specs.Places.{before_all, nothing_yet, seen}
+use Rattle.tree_places.specs.Places.{before_all, nothing_yet, seen, withs}
 
 -- ---- how many nodes
 
@@ -57,6 +60,13 @@ many_in_all ts i h =
 
 -- ---- what is asked
 
+pub plain_of : (t : Tree) (l : PlaceList) (ms : List declared.Mention) → withs_in l ≡ withs (alone t) → mention_views ms ≡ mentions_of t
+    → (b : Bool) → b ≡ (is_bare_module t && nat_eq (length l.withs.items) 0 && not (list_any is_barred (mention_views ms))) → b ≡ is_plain_module t
+unfolding is_plain_module
+plain_of t l ms around mentioned b is =
+    let many : length l.withs.items ≡ length (withs (alone t)) = sym (length-map l.withs.items _) ∙ ap length around in
+    is ∙ ap₂ (λ (n : ℕ) (qs : List Mention). is_bare_module t && nat_eq n 0 && not (list_any is_barred qs)) many mentioned
+
 pub one_surveyed_more : (ts : List Tree) (i : ℕ) (t : Tree) (ms new : List Module) (m : Module) → i < length ts → t ≡ get_or ts i t → AreModulesOf (take i ts) ms → IsModuleOf t m → new ≡ ms ++ m ∷ [] → AreModulesOf (take (i + 1) ts) new
 one_surveyed_more ts i t ms new m h e are is put = record {
   mentions = more module_view mentions_of are.mentions is.mentions;
@@ -65,8 +75,8 @@ one_surveyed_more ts i t ms new m h e are is put = record {
 }
   where
     more : {X : Type 0} (f : Module → X) (g : Tree → X) → map f ms ≡ map g (take i ts) → f m ≡ g t → map f new ≡ map g (take (i + 1) ts)
-    more {X = X} f g all here =
-        ap (map f) put ∙ map-append f ms (m ∷ []) ∙ ap₂ (λ (xs : List X) (x : X). xs ++ x ∷ []) all (here ∙ ap g e) ∙ sym (map_more g ts i t h)
+    more {X = X} f g so_far here =
+        ap (map f) put ∙ map-append f ms (m ∷ []) ∙ ap₂ (λ (xs : List X) (x : X). xs ++ x ∷ []) so_far (here ∙ ap g e) ∙ sym (map_more g ts i t h)
 
 pub fault_told : (ts : List Tree) (ms : List Module) → AreModulesOf ts ms → list_any (λ m. m.faulty) ms ≡ have_fault ts
 unfolding have_fault

@@ -1,5 +1,5 @@
-use Rattle.std.proofs.Common.{◌≡◌, ◌<◌, ℕ, List, [], ◌∷◌, length, get_or, Option, Some, None, option_map, slice_get, vec_len, ap, arith, refl, sym, ◌∙◌}
-use Rattle.std.proofs.lemmas.Bool.{eqb-true}
+use Rattle.std.proofs.Common.{◌≡◌, ◌<◌, ℕ, zero, suc, List, [], ◌∷◌, length, get_or, Option, Some, None, option_map, slice_get, vec_len, ap, arith, refl, sym, ◌∙◌}
+use Rattle.std.proofs.lemmas.Bool.{eqb-false, eqb-true}
 use Rattle.place_list.proofs.PlacesStand.{read_at}
 use Rattle.tree_nodes.proofs.Lists.{part_at-parts_of}
 use Rattle.tree_nodes.specs.Look.{part_at}
@@ -12,6 +12,10 @@ none_first : (fs : List Field) → length fs ≡ 0 → None ≡ option_map part_
 none_first [] e = refl
 none_first (f ∷ fs) e = absurd (omega (arith, e))
 
+above_nought : (n : ℕ) → (n ≡ 0 → ⊥) → 0 < n
+above_nought zero h = absurd (h refl)
+above_nought (suc n) h = omega arith
+
 pub returns-then-is_empty : goal.returns-then-is_empty
 returns-then-is_empty c =
     let fs = c.into_vec-fields.result in
@@ -21,6 +25,7 @@ returns-then-is_empty c =
 pub returns : goal.returns
 returns c =
     let fs = c.into_vec-fields.result in
-    let some : 0 < length fs.items = ? in
+    let none : vec_len fs ≡ 0 → ⊥ = eqb-false _ _ (sym c.is_empty.ensures ∙ c.if-is_empty.false) in
+    let some : 0 < length fs.items = above_nought (length fs.items) (λ e. none (omega (arith, e, fs.ok.0))) in
     sym (ap (option_map part_of) (read_at fs.items 0 c.swap_remove.result some c.swap_remove.ensures.value))
     ∙ sym (part_at-parts_of fs.items 0) ∙ ap (λ (x : Parts). part_at x 0) c.into_vec-fields.ensures
