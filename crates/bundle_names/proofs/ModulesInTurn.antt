@@ -1,5 +1,5 @@
 -- Joined modules, with one module more.
-use Rattle.std.specs.Prelude.{◌≡◌, ℕ, List, [], ◌∷◌, ◌++◌, length, map, Option, Some, None, option_and_then, ◌≤◌}
+use Rattle.std.specs.Prelude.{◌≡◌, ℕ, List, [], ◌∷◌, ◌++◌, length, map, get_or, slice_get, ◌<◌, Option, Some, None, option_and_then, ◌≤◌}
 use Rattle.std.specs.BTreeSet.{contains_text}
 use Rattle.std.specs.List.{AllByRecursion}
 use Rattle.std.proofs.Common.{refl, sym, ap, ap₂, subst, ◌∙◌}
@@ -11,7 +11,7 @@ use Rattle.bundle_names.proofs.PartsInTurn.{as_many, parts_and}
 use Rattle.bundle_names.specs.Given.{HoldsGiven, last_tried}
 use Rattle.bundle_names.specs.Joining.{AreJoined, IsBareProgram}
 use Rattle.bundle_names.specs.NameSets.{PutsAll, has_name}
-use Rattle.bundle_names.specs.NewNames.{AreNew, at_node, choice_by, texts}
+use Rattle.bundle_names.specs.NewNames.{AreNew, HaveIdentifiers, at_node, choice_by, texts}
 use Rattle.bundle_names.specs.Numbers.{choice, number_of}
 use Rattle.bundle_names.specs.declared.given.Given.{Given}
 use Rattle.bundle_names.specs.declared.join.Bodies.{Bodies}
@@ -23,6 +23,9 @@ use Rattle.bundle_rules.specs.Mentions.{Mention, mentions_of}
 use Rattle.bundle_rules.specs.Moves.{IsBare}
 use Rattle.bundle_rules.specs.NewNames.{Modules, names_after, needing}
 use Rattle.list_laws.proofs.AllOf.{AllOf_push}
+use Rattle.list_laws.proofs.Tests.{some_one}
+use Rattle.place_list.proofs.PlacesStand.{mapped_at, read_at}
+use Rattle.tree_core.specs.Program.{IsProgram}
 use Rattle.tree_nodes.specs.Look.{onto}
 use Rattle.tree_nodes.specs.Tree.{Parts, Text, Tree, alone}
 use Rattle.tree_nodes.specs.Views.{items_of}
@@ -64,6 +67,19 @@ roots_put all before given ms g new h put names tried = record {
 }
 
 -- ---- all modules so far
+
+pub none_joined : (all : Modules) (g : Given) (b : Bodies) → HoldsGiven all [] [] g → b.statements.items ≡ [] → b.starts.items ≡ [] → AreJoined all [] g b
+unfolding bodies starts_from
+none_joined all g b holds none nowhere = record { trees = []; given = []; parts = refl; holds = holds; statements = ap items_of none; starts = nowhere; bare = tt; programs = tt }
+
+-- what is alike of two lists is alike at one place
+pub same_at : {X Y Z : Type 0} (f : X → Z) (g : Y → Z) (xs : List X) (ys : List Y) (i : ℕ) (x : X) (y : Y) → map f xs ≡ map g ys → i < length xs → i < length ys → x ≡ get_or xs i x → y ≡ get_or ys i y → f x ≡ g y
+same_at {Z = Z} f g xs ys i x y e h k p q =
+    some_one _ _ (sym (mapped_at f xs i x (read_at xs i x h p)) ∙ ap (λ (zs : List Z). slice_get zs i) e ∙ mapped_at g ys i y (read_at ys i y k q))
+
+-- the names of a program are identifier names
+pub identifiers_of : (t : Tree) → IsProgram t → HaveIdentifiers (mentions_of t)
+identifiers_of t p = ?
 
 modules_more : (ts : List Tree) (t : Tree) → modules_of (ts ++ t ∷ []) ≡ modules_of ts ++ mentions_of t ∷ []
 modules_more ts t = map-append mentions_of ts (t ∷ [])

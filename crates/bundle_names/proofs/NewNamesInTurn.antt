@@ -83,6 +83,6 @@ module _ (names : Names) (start : Given) (ms : List declared.Mention) (i : ℕ) 
         (sym (ap (needing all before) one_seen_more ∙ one_needing_more all before (mention_views (take i ms)) (mention_view (get_or ms i d)) (told all before given hn hg ∙ needs)))
         (put all before given (needing all before (mention_views (take i ms))) hn (so_far.given all before given hn hg) (so_far.new all before given hn hg));
     given = λ all before given hn hg. give all before given hn (so_far.given all before given hn hg);
-    identifiers = λ given. identifiers (all_at (λ (m : Mention). IsTrue (is_identifier_name m.name)) (mention_views ms) i (mention_view (get_or ms i d)) given (mapped_at mention_view ms i (get_or ms i d) (read_at ms i (get_or ms i d) h (get_or_default ms i (get_or ms i d) d h)))) (so_far.identifiers given);
+    identifiers = λ given. identifiers (all_at (λ (m : Mention). IsTrue (is_identifier_name m.name)) (mention_views ms) i (mention_view (get_or ms i d)) given (mapped_at mention_view ms i (get_or ms i d) (read_at ms i (get_or ms i d) h (sym (get_or_default ms i (get_or ms i d) d h))))) (so_far.identifiers given);
     short = short so_far.short;
   }

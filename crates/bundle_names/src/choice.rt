@@ -14,6 +14,7 @@ use crate::mention::Mention;
 use crate::new_names::NewNames;
 use std::alloc::{AllocError, Global};
 use tree_core::Program;
+use tree_nodes::Node;
 use tree_rename::rename;
 
 // The number of the new name of a place, that of its binding.
@@ -41,21 +42,22 @@ fn choices(
     Ok(choices)
 }
 
-/// A copy of the module under these new names. Err is want of memory.
+/// A copy of the module of this root under these new names. Err is want of memory.
 pub(crate) fn rename_module(
     alloc: Global,
-    program: &Program,
+    root: &Node,
     mentions: &[Mention<'_>],
     new: &NewNames,
 ) -> Result<Program, AllocError>
-    requires mentions { mention_views mentions.now ≡ mentions_of program.now }
+    requires program { IsProgram root.now }
+    requires mentions { mention_views mentions.now ≡ mentions_of root.now }
     requires identifiers { AreIdentifiers new.now.names.items }
     requires short { AreShort new.now.names.items }
-    ensures renamed { IfOk result (λ u. IsRenamed (alone program.now) (alone u)) }
-    ensures names { IfOk result (λ u. names (alone u) ≡ chosen (texts new.now) (map (choice_by new.now) (mentions_of program.now)) (names (alone program.now))) }
+    ensures renamed { IfOk result (λ u. IsRenamed (alone root.now) (alone u)) }
+    ensures names { IfOk result (λ u. names (alone u) ≡ chosen (texts new.now) (map (choice_by new.now) (mentions_of root.now)) (names (alone root.now))) }
     ensures program { IfOk result (λ u. IsProgram u) }
 {
     let choices = choices(alloc, new, mentions)?;
-    let copy = Program::from_root(program.root().try_clone(alloc)?);
+    let copy = Program::from_root(root.try_clone(alloc)?);
     rename(alloc, copy, choices.as_slice(), new.names.as_slice())
 }

@@ -54,11 +54,13 @@ fn append<'t>(
     requires bare { IsTrue (is_bare_module program.now) }
     ensures { OnOk result ((all : Modules) (ts : List Tree) → HoldsNames all names.now → AreJoined all ts given.old bodies.old → AreJoined all (ts ++ program.now ∷ []) given.new bodies.new) }
 {
+    let root = program.root();
     let mentions = surveyed.mentions.as_slice();
     let new = new_names(alloc, names, given, mentions)?;
-    let renamed = rename_module(alloc, program, mentions, &new)?;
+    let renamed = rename_module(alloc, root, mentions, &new)?;
     put_names(&mut given.roots, Use::Root, mentions)?;
-    put_body(bodies, body_of(alloc, renamed))
+    put_body(bodies, body_of(alloc, renamed))?;
+    Ok(())
 }
 
 // Appends these statements. Err is want of memory, or of numbers.

@@ -1,4 +1,4 @@
-use Rattle.std.proofs.Common.{◌∷◌, [], ap, length, map, string_bytes, sym, ◌∙◌}
+use Rattle.std.proofs.Common.{◌≡◌, ◌∷◌, ◌++◌, [], ap, arith, length, map, string_bytes, sym, ◌∙◌}
 use Rattle.std.proofs.lemmas.List.{length-map, map-append}
 use Rattle.bundle_names.proofs.NewNamesInTurn.{one_new_more}
 use Rattle.bundle_names.specs.NewNames.{at_node, texts}
@@ -11,8 +11,9 @@ returns-clause-new c = λ all before gs ms hn hg a.
     let old = c.args.new.now in
     let m = mention_view c.args.mention.now in
     let name = c.in_ok-name.name in
-    one_new_more all gs ms m old (record { numbers = c.insert.new.self; names = c.push.new.self }) (string_bytes name) _ a
+    let many : c.len-number.result ≡ length (texts old) = omega (arith, length-map old.names.items string_bytes, old.names.ok.0) in
+    one_new_more all gs ms m old (record { numbers = c.insert.new.self; names = c.push.new.self }) (string_bytes name) c.len-number.result a
     (c.in_ok-name.ensures.new all before (gs ++ texts old) hn hg)
     (ap (map string_bytes) c.in_ok-push.ensures.items ∙ map-append string_bytes old.names.items (name ∷ []))
-    ?
+    many
     (λ q. c.in_ok-insert.ensures.updates.0 q ∙ set_at m.node q _ _)
