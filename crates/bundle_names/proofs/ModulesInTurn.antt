@@ -25,13 +25,18 @@ use Rattle.bundle_rules.specs.NewNames.{Modules, names_after, needing}
 use Rattle.list_laws.proofs.AllOf.{AllOf_push}
 use Rattle.list_laws.proofs.Tests.{some_one}
 use Rattle.place_list.proofs.PlacesStand.{mapped_at, read_at}
+use Rattle.tree_core.proofs.ReadsBack.{tree_fits}
 use Rattle.tree_core.specs.Program.{IsProgram}
+use Rattle.tree_core.specs.Values.{value_of}
 use Rattle.tree_nodes.specs.Look.{onto}
 use Rattle.tree_nodes.specs.Tree.{Parts, Text, Tree, alone}
 use Rattle.tree_nodes.specs.Views.{items_of}
 use Rattle.tree_places.specs.Chosen.{chosen}
 use Rattle.tree_places.specs.Places.{names}
 use Rattle.tree_places.specs.Renaming.{IsRenamed}
+use Rattle.tree_rename.proofs.FormedFits.{tree_formed}
+use Rattle.tree_rename.proofs.IdentifierNames.{all_named}
+use Rattle.tree_rename.specs.Laws.{IsName}
 
 -- ---- one module under its new names
 
@@ -78,8 +83,14 @@ same_at {Z = Z} f g xs ys i x y e h k p q =
     some_one _ _ (sym (mapped_at f xs i x (read_at xs i x h p)) ∙ ap (λ (zs : List Z). slice_get zs i) e ∙ mapped_at g ys i y (read_at ys i y k q))
 
 -- the names of a program are identifier names
+each_identifier : (ms : List Mention) → AllByRecursion IsName (map (λ m. m.name) ms) → HaveIdentifiers ms
+each_identifier [] a = tt
+each_identifier (m ∷ ms) a = (a.0.1, each_identifier ms a.1)
+
 pub identifiers_of : (t : Tree) → IsProgram t → HaveIdentifiers (mentions_of t)
-identifiers_of t p = ?
+identifiers_of t p =
+    let named = (tree_formed t (tree_fits (value_of t) t p.0)).1 in
+    each_identifier (mentions_of t) (subst (AllByRecursion IsName) (sym (names_mentioned (alone t))) (all_named (alone t) named))
 
 modules_more : (ts : List Tree) (t : Tree) → modules_of (ts ++ t ∷ []) ≡ modules_of ts ++ mentions_of t ∷ []
 modules_more ts t = map-append mentions_of ts (t ∷ [])

@@ -79,5 +79,6 @@ fn others_are_not(rt: HostRuntime) -> Result<(), Fail> {
         assert!(rt; joined(alloc, &[DECLARES, module])?.as_str() == wanted);
     }
     assert!(rt; joined(alloc, &[IMPORTS, FAULTY])?.as_str() == "bad scope");
+    assert!(rt; joined(alloc, &[FAULTY, IMPORTS])?.as_str() == "bad scope");
     Ok(())
 }
