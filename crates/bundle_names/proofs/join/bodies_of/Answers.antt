@@ -1,4 +1,4 @@
-use Rattle.std.proofs.Common.{◌≡◌, ◌≤◌, ◌+◌, List, ap, arith, length, subst, sym, take, ◌∙◌}
+use Rattle.std.proofs.Common.{◌≡◌, ◌≤◌, ◌+◌, ◌++◌, ◌∷◌, [], List, ap, arith, length, subst, sym, take, ◌∙◌}
 use Rattle.std.proofs.lemmas.List.{length-map, take_more}
 use Rattle.bundle_names.proofs.ModulesInTurn.{none_joined, same_at}
 use Rattle.bundle_names.specs.Joining.{AreJoined}
@@ -34,7 +34,7 @@ loop-i-preserved c =
           joined =
               subst (λ (g : Given). AreJoined all (take (i + 1) ps) g c.if-i-modules.bodies) (sym w.given-is)
               (subst (λ (b : Bodies). AreJoined all (take (i + 1) ps) w.append.new.given b) (sym w.bodies-is)
-              (subst (λ (ts : List Tree). AreJoined all ts w.append.new.given w.append.new.bodies) (? ∙ sym (take_more ps i w.index-programs-i.result c.loop-i-test.true))
+              (subst (λ (ts : List Tree). AreJoined all ts w.append.new.given w.append.new.bodies) (ap (λ (t : Tree). take i ps ++ t ∷ []) w.index-programs-i.is ∙ sym (take_more ps i w.index-programs-i.result c.loop-i-test.true))
               (w.in_ok-append.ensures all (take i ps) c.loop-i.invariant.names c.loop-i.invariant.joined)));
         }
       | else-i-modules w ↦
