@@ -139,5 +139,5 @@ renamed_bare t u b p r =
     let source : word_of (part u.fields 1) ≡ word_of (part t.fields 1) = sym (word_at u.fields 1) ∙ ap (λ (x : Parts). word_of (part x 1)) same ∙ word_at t.fields 1 in
     let blank : is_empty (part u.fields 2) ≡ is_empty (part t.fields 2) = sym (blank_at u.fields 2) ∙ ap (λ (x : Parts). is_empty (part x 2)) same ∙ blank_at t.fields 2 in
     bare_by u (module_body u p
-      (ap (λ (n : ℕ). nat_eq n 1) (source ∙ ap (λ (x : Parts). word_of (part x 1)) b.1))
-      (blank ∙ ap (λ (x : Parts). is_empty (part x 2)) b.1))
+    (ap (λ (n : ℕ). nat_eq n 1) (source ∙ ap (λ (x : Parts). word_of (part x 1)) b.1))
+    (blank ∙ ap (λ (x : Parts). is_empty (part x 2)) b.1))

@@ -78,12 +78,16 @@ one_surveyed_more ts i t ms new m h e are is put = record {
     more {X = X} f g so_far here =
         ap (map f) put ∙ map-append f ms (m ∷ []) ∙ ap₂ (λ (xs : List X) (x : X). xs ++ x ∷ []) so_far (here ∙ ap g e) ∙ sym (map_more g ts i t h)
 
-pub fault_told : (ts : List Tree) (ms : List Module) → AreModulesOf ts ms → list_any (λ m. m.faulty) ms ≡ have_fault ts
-unfolding have_fault
-fault_told ts ms are =
-    sym (any_map (λ (m : Module). m.faulty) (λ b. b) ms) ∙ ap (list_any (λ b. b)) are.faulty ∙ any_map is_faulty (λ b. b) ts
+-- by the tests in the code, of a slice of them
+module _ (ts : List Tree) (ms slice : List Module) (are : AreModulesOf ts ms) (same : slice ≡ ms) (b : Bool) where
+  pub fault_told : b ≡ list_any (λ m. m.faulty) slice → have_fault ts ≡ b
+  unfolding have_fault
+  fault_told is =
+      sym (any_map is_faulty (λ b. b) ts) ∙ ap (list_any (λ b. b)) (sym are.faulty) ∙ any_map (λ (m : Module). m.faulty) (λ b. b) ms
+      ∙ sym (is ∙ ap (list_any (λ (m : Module). m.faulty)) same)
 
-pub plain_told : (ts : List Tree) (ms : List Module) → AreModulesOf ts ms → list_all (λ m. m.plain) ms ≡ are_plain ts
-unfolding are_plain
-plain_told ts ms are =
-    sym (list_all-map (λ b. b) (λ (m : Module). m.plain) ms) ∙ ap (list_all (λ b. b)) are.plain ∙ list_all-map (λ b. b) is_plain_module ts
+  pub plain_told : b ≡ list_all (λ m. m.plain) slice → are_plain ts ≡ b
+  unfolding are_plain
+  plain_told is =
+      sym (list_all-map (λ b. b) is_plain_module ts) ∙ ap (list_all (λ b. b)) (sym are.plain) ∙ list_all-map (λ b. b) (λ (m : Module). m.plain) ms
+      ∙ sym (is ∙ ap (list_all (λ (m : Module). m.plain)) same)

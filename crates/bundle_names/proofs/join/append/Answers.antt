@@ -28,12 +28,12 @@ returns c = λ all ts hn j.
     let mentioned = ap mention_views c.as_slice-mentions.ensures.value ∙ c.requires.mentions ∙ ap mentions_of (sym e) in
     let bare = bare_module r (subst IsProgram (sym e) c.root-root.ensures.program) (ap is_bare_module e ∙ c.requires.bare) in
     let part = part_told all (modules_of ts) j.given r u n
-      (subst (λ (ms : List Mention). AreNew all j.given (needing all (modules_of ts) ms) n) mentioned (c.in_ok-new.ensures.new all (modules_of ts) j.given hn j.holds))
-      c.in_ok-renamed.ensures.renamed c.in_ok-renamed.ensures.names in
+    (subst (λ (ms : List Mention). AreNew all j.given (needing all (modules_of ts) ms) n) mentioned (c.in_ok-new.ensures.new all (modules_of ts) j.given hn j.holds))
+    c.in_ok-renamed.ensures.renamed c.in_ok-renamed.ensures.names in
     let holds = roots_put all (modules_of ts) (j.given ++ texts n) (mentions_of r) c.new_names.new.given (record { roots = c.put_names.new.names; names = c.new_names.new.given.names; tried = c.new_names.new.given.tried })
-      (c.in_ok-new.ensures.given all (modules_of ts) j.given hn j.holds)
-      (subst (λ (ms : List Mention). PutsAll Root c.new_names.new.given.roots ms c.put_names.new.names) mentioned c.in_ok-put_names.ensures) refl refl in
+    (c.in_ok-new.ensures.given all (modules_of ts) j.given hn j.holds)
+    (subst (λ (ms : List Mention). PutsAll Root c.new_names.new.given.roots ms c.put_names.new.names) mentioned c.in_ok-put_names.ensures) refl refl in
     subst (λ (t : Tree). AreJoined all (ts ++ t ∷ []) (record { roots = c.put_names.new.names; names = c.new_names.new.given.names; tried = c.new_names.new.given.tried }) c.put_body.new.bodies) e
     (one_joined_more all ts c.args.given.now (record { roots = c.put_names.new.names; names = c.new_names.new.given.names; tried = c.new_names.new.given.tried }) c.args.bodies.now c.put_body.new.bodies j r u (texts n) part holds bare
-      (c.in_ok-renamed.ensures.program, renamed_bare r u bare c.in_ok-renamed.ensures.program c.in_ok-renamed.ensures.renamed)
-      c.body_of.result.items c.body_of.ensures c.in_ok-put_body.ensures.statements c.in_ok-put_body.ensures.starts)
+    (c.in_ok-renamed.ensures.program, renamed_bare r u bare c.in_ok-renamed.ensures.program c.in_ok-renamed.ensures.renamed)
+    c.body_of.result.items c.body_of.ensures c.in_ok-put_body.ensures.statements c.in_ok-put_body.ensures.starts)

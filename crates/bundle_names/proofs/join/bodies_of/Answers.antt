@@ -30,13 +30,13 @@ loop-i-preserved c =
     let i = c.loop-i.i in
     elim c.if-i-modules.branch [
       | then-i-modules+in_ok-append w ↦ record {
-          names = c.loop-i.invariant.names;
-          joined =
-              subst (λ (g : Given). AreJoined all (take (i + 1) ps) g c.if-i-modules.bodies) (sym w.given-is)
-              (subst (λ (b : Bodies). AreJoined all (take (i + 1) ps) w.append.new.given b) (sym w.bodies-is)
-              (subst (λ (ts : List Tree). AreJoined all ts w.append.new.given w.append.new.bodies) (ap (λ (t : Tree). take i ps ++ t ∷ []) w.index-programs-i.is ∙ sym (take_more ps i w.index-programs-i.result c.loop-i-test.true))
-              (w.in_ok-append.ensures all (take i ps) c.loop-i.invariant.names c.loop-i.invariant.joined)));
-        }
+        names = c.loop-i.invariant.names;
+        joined =
+            subst (λ (g : Given). AreJoined all (take (i + 1) ps) g c.if-i-modules.bodies) (sym w.given-is)
+            (subst (λ (b : Bodies). AreJoined all (take (i + 1) ps) w.append.new.given b) (sym w.bodies-is)
+            (subst (λ (ts : List Tree). AreJoined all ts w.append.new.given w.append.new.bodies) (ap (λ (t : Tree). take i ps ++ t ∷ []) w.index-programs-i.is ∙ sym (take_more ps i w.index-programs-i.result c.loop-i-test.true))
+            (w.in_ok-append.ensures all (take i ps) c.loop-i.invariant.names c.loop-i.invariant.joined)));
+      }
       | else-i-modules w ↦
           absurd (let many : length c.args.modules.now ≡ length ps = sym (length-map c.args.modules.now module_view) ∙ ap length c.requires.modules ∙ length-map ps mentions_of in omega (arith, many, w.if-i-modules.false, c.loop-i-test.true))
     ]

@@ -1,28 +1,23 @@
-use Rattle.std.proofs.Common.{◌≡◌, List, ap, sym, ◌∙◌}
-use Rattle.std.specs.List.{list_all, list_any}
+use Rattle.std.proofs.Common.{◌∙◌}
 use Rattle.bundle_names.proofs.Bundled.{all_faultless, bundle, each_bare, faultless, program, same_bindings, same_private_bindings}
 use Rattle.bundle_names.proofs.SurveyedModules.{fault_told, few_by_test, plain_told}
-use Rattle.bundle_names.specs.declared.survey.Module.{Module}
 use Rattle.bundle_rules.proofs.NodesLie.{modules_share_no_binding}
 use Rattle.bundle_names.proofs.join.join_modules.Goals as goal
 
 pub returns-then-have_fault-clause-err : goal.returns-then-have_fault-clause-err
 returns-then-have_fault-clause-err c =
-    let ms = c.in_ok-surveyed.surveyed.items in
-    let told = sym (fault_told c.args.modules.now ms c.in_ok-surveyed.ensures.modules) ∙ sym (c.have_fault.ensures ∙ ap (list_any (λ (m : Module). m.faulty)) c.as_slice.ensures.value) in
+    let told = fault_told c.args.modules.now _ _ c.in_ok-surveyed.ensures.modules c.as_slice.ensures.value _ c.have_fault.ensures in
     (c.in_ok-surveyed.ensures.small, told ∙ c.if-have_fault.true)
 
 pub returns-then-not-are_plain-clause-err : goal.returns-then-not-are_plain-clause-err
 returns-then-not-are_plain-clause-err c =
-    let ms = c.in_ok-surveyed.surveyed.items in
-    let told = sym (fault_told c.args.modules.now ms c.in_ok-surveyed.ensures.modules) ∙ sym (c.have_fault.ensures ∙ ap (list_any (λ (m : Module). m.faulty)) c.as_slice.ensures.value) in
-    let plain = sym (plain_told c.args.modules.now ms c.in_ok-surveyed.ensures.modules) ∙ sym (c.are_plain.ensures ∙ ap (list_all (λ (m : Module). m.plain)) c.as_slice-2.ensures.value) in
+    let told = fault_told c.args.modules.now _ _ c.in_ok-surveyed.ensures.modules c.as_slice.ensures.value _ c.have_fault.ensures in
+    let plain = plain_told c.args.modules.now _ _ c.in_ok-surveyed.ensures.modules c.as_slice-2.ensures.value _ c.are_plain.ensures in
     (c.in_ok-surveyed.ensures.small, told ∙ c.if-have_fault.false, plain ∙ c.if-not-are_plain.true)
 
 pub bodies_of-requires-clause-bare : goal.bodies_of-requires-clause-bare
 bodies_of-requires-clause-bare c =
-    let ms = c.in_ok-surveyed.surveyed.items in
-    let plain = sym (plain_told c.args.modules.now ms c.in_ok-surveyed.ensures.modules) ∙ sym (c.are_plain.ensures ∙ ap (list_all (λ (m : Module). m.plain)) c.as_slice-2.ensures.value) in
+    let plain = plain_told c.args.modules.now _ _ c.in_ok-surveyed.ensures.modules c.as_slice-2.ensures.value _ c.are_plain.ensures in
     each_bare c.args.modules.now (plain ∙ c.if-not-are_plain.false)
 
 pub from_root-program-requires : goal.from_root-program-requires
@@ -32,9 +27,8 @@ from_root-program-requires c =
 
 pub returns-clause-ok : goal.returns-clause-ok
 returns-clause-ok c =
-    let ms = c.in_ok-surveyed.surveyed.items in
-    let told = sym (fault_told c.args.modules.now ms c.in_ok-surveyed.ensures.modules) ∙ sym (c.have_fault.ensures ∙ ap (list_any (λ (m : Module). m.faulty)) c.as_slice.ensures.value) in
-    let plain = sym (plain_told c.args.modules.now ms c.in_ok-surveyed.ensures.modules) ∙ sym (c.are_plain.ensures ∙ ap (list_all (λ (m : Module). m.plain)) c.as_slice-2.ensures.value) in
+    let told = fault_told c.args.modules.now _ _ c.in_ok-surveyed.ensures.modules c.as_slice.ensures.value _ c.have_fault.ensures in
+    let plain = plain_told c.args.modules.now _ _ c.in_ok-surveyed.ensures.modules c.as_slice-2.ensures.value _ c.are_plain.ensures in
     (c.in_ok-surveyed.ensures.small, told ∙ c.if-have_fault.false, plain ∙ c.if-not-are_plain.false)
 
 pub returns-clause-bundle : goal.returns-clause-bundle
@@ -44,9 +38,8 @@ returns-clause-bundle c =
 
 pub returns-clause-faultless : goal.returns-clause-faultless
 returns-clause-faultless c =
-    let ms = c.in_ok-surveyed.surveyed.items in
     let b = c.in_ok-bodies.ensures in
-    let told = sym (fault_told c.args.modules.now ms c.in_ok-surveyed.ensures.modules) ∙ sym (c.have_fault.ensures ∙ ap (list_any (λ (m : Module). m.faulty)) c.as_slice.ensures.value) in
+    let told = fault_told c.args.modules.now _ _ c.in_ok-surveyed.ensures.modules c.as_slice.ensures.value _ c.have_fault.ensures in
     faultless c.args.modules.now b.0 c.in_ok-bodies.bodies b.1 c.from_root-program.result (c.from_root-program.ensures ∙ c.in_ok-module_of.ensures) (all_faultless c.args.modules.now (told ∙ c.if-have_fault.false))
 
 pub returns-clause-bindings : goal.returns-clause-bindings

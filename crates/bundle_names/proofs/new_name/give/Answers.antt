@@ -41,8 +41,8 @@ returns-clause-given c = λ all before gs hn hg.
     (record { roots = g.roots; names = c.insert-2.new.self; tried = c.insert.new.self })
     (λ y. refl)
     (λ y. btree_set_updates_text (string_bytes c.in_ok-copy.copy) g.names c.insert-2.new.self true c.in_ok-insert-2.ensures.updates y
-      ∙ ap (λ (bs : Text). cond (bytes_eq bs y) true (contains_text g.names y)) same
-      ∙ put_number (bytes_eq new y) (contains_text g.names y))
+    ∙ ap (λ (bs : Text). cond (bytes_eq bs y) true (contains_text g.names y)) same
+    ∙ put_number (bytes_eq new y) (contains_text g.names y))
     (λ y. ap (λ (o : Option ℕ). unwrap_or o 0) (btree_map_updates_str x g.tried c.insert.new.self (Some k) c.in_ok-insert.ensures.updates y) ∙ or_nought (bytes_eq x y) k _)
 
 pub returns-clause-identifier : goal.returns-clause-identifier

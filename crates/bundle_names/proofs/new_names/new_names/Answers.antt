@@ -34,7 +34,7 @@ loop-i-preserved c =
           subst (λ (g : Given). NewSoFar n start (mention_views ms) (mention_views (take (i + 1) ms)) c.if-needs_new_name.new g) (sym w.given-is)
           (subst (λ (m : NewNames). NewSoFar n start (mention_views ms) (mention_views (take (i + 1) ms)) m w.add.new.given) (sym w.new-is)
           (added n start ms i _ c.loop-i-test.true c.loop-i.new c.loop-i.given c.loop-i.invariant _ c.needs_new_name.ensures w.if-needs_new_name.true w.add.new.new w.add.new.given
-            w.in_ok-add.ensures.new w.in_ok-add.ensures.given w.in_ok-add.ensures.identifiers w.in_ok-add.ensures.short))
+          w.in_ok-add.ensures.new w.in_ok-add.ensures.given w.in_ok-add.ensures.identifiers w.in_ok-add.ensures.short))
       | else-needs_new_name w ↦
           subst (λ (g : Given). NewSoFar n start (mention_views ms) (mention_views (take (i + 1) ms)) c.if-needs_new_name.new g) (sym w.given-is)
           (subst (λ (m : NewNames). NewSoFar n start (mention_views ms) (mention_views (take (i + 1) ms)) m c.loop-i.given) (sym w.new-is)
