@@ -1,5 +1,5 @@
 -- A program that is a module without a hashbang has its statements alone.
-use Rattle.std.proofs.Common.{◌≡◌, ℕ, Bool, true, false, ◌&&◌, cond, not, nat_eq, List, [], ◌∷◌, Option, Some, None, refl, sym, ap, ap₂, subst, ◌∙◌}
+use Rattle.std.proofs.Common.{◌≡◌, ℕ, Bool, true, false, ◌&&◌, cond, not, nat_eq, List, [], ◌∷◌, Some, None, refl, sym, ap, ap₂, subst, ◌∙◌}
 use Rattle.std.proofs.lemmas.Bool.{and_parts, both_ways, eqb-true}
 use Rattle.bundle_rules.specs.Joined.{body}
 use Rattle.bundle_rules.specs.Moves.{IsBare}
@@ -17,8 +17,7 @@ use Rattle.tree_nodes.specs.Table.{Column, inner, node, other, row}
 use Rattle.tree_nodes.specs.Tree.{Atom, Parts, Tree, alone, atom, child, done, empty, flag, is_empty, many, part, text, units, whole, word, word_of}
 use Rattle.tree_nodes.specs.declared.kind.Kind.{Kind}
 use Rattle.tree_nodes.specs.declared.kind.Kind.TheVariants.{Program}
-use Rattle.tree_nodes.specs.declared.table.Class.{Class as FieldClass}
-use Rattle.tree_nodes.specs.declared.table.Class.TheVariants.{Many, Maybe, Word}
+use Rattle.tree_nodes.specs.declared.table.Class.TheVariants.{Many, Word}
 use Rattle.tree_nodes.specs.declared.table.Group.{Group}
 use Rattle.tree_nodes.specs.declared.table.Words.{Words}
 use Rattle.tree_places.proofs.Blind.{blank_at, word_at}

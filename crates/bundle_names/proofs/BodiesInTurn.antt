@@ -1,13 +1,12 @@
 -- The bodies of modules, with one more.
-use Rattle.std.specs.Prelude.{◌≡◌, ◌<◌, ◌≤◌, ◌^◌, ◌+◌, ℕ, suc, List, [], ◌∷◌, ◌++◌, map, sum, length, Option, Some, None}
+use Rattle.std.specs.Prelude.{◌≡◌, ◌<◌, ◌≤◌, ◌^◌, ◌+◌, ℕ, suc, List, [], ◌∷◌, ◌++◌, length, Option, Some, None}
 use Rattle.std.specs.List.{AllByRecursion, sum_by}
-use Rattle.std.proofs.Common.{refl, sym, ap, ap₂, subst, ◌∙◌, arith}
-use Rattle.std.proofs.lemmas.List.{map-append}
+use Rattle.std.proofs.Common.{refl, sym, ap, ap₂, ◌∙◌, arith}
 use Rattle.std.proofs.lemmas.List.Sums.{sum_by-cons}
 use Rattle.bundle_names.proofs.JoinedPrograms.{body_nodes, more_nodes}
 use Rattle.bundle_names.specs.Joining.{IsBareProgram}
 use Rattle.bundle_rules.proofs.Counted.{nodes_renamed}
-use Rattle.bundle_rules.specs.Bundles.{AreParts, modules_of}
+use Rattle.bundle_rules.specs.Bundles.{AreParts}
 use Rattle.bundle_rules.specs.Joined.{bodies, body, starts_from}
 use Rattle.bundle_rules.specs.Mentions.{mentions_of}
 use Rattle.bundle_rules.specs.Moves.{IsBare}
@@ -16,7 +15,7 @@ use Rattle.tree_core.specs.NodeCount.{node_count, nodes_in}
 use Rattle.tree_nodes.proofs.Lists.{parts_len-items_of}
 use Rattle.tree_nodes.proofs.Onto.{onto_assoc, onto_done}
 use Rattle.tree_nodes.specs.Look.{onto, parts_len}
-use Rattle.tree_nodes.specs.Tree.{Atom, Parts, Text, Tree, alone, atom, before, child, done, empty, many, word}
+use Rattle.tree_nodes.specs.Tree.{Parts, Text, Tree, alone, atom, before, child, done, empty, many, word}
 use Rattle.tree_nodes.specs.Views.{items_of}
 use Rattle.tree_nodes.specs.declared.kind.Kind.{Kind}
 use Rattle.tree_nodes.specs.declared.kind.Kind.TheVariants.{Program}

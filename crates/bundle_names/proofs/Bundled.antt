@@ -1,5 +1,5 @@
 -- Joined bodies are the modules in one scope, and a program: so the laws on joined modules hold of it.
-use Rattle.std.proofs.Common.{◌≡◌, ◌<◌, ◌^◌, ℕ, true, false, IsFalse, IsTrue, List, [], ◌∷◌, map, sym, ap, subst, ◌∙◌}
+use Rattle.std.proofs.Common.{◌≡◌, ◌<◌, ◌^◌, ℕ, true, false, IsFalse, IsTrue, List, [], ◌∷◌, sym, ap, subst, ◌∙◌}
 use Rattle.std.proofs.lemmas.Bool.{and_parts, or_parts}
 use Rattle.std.specs.List.{AllByRecursion, list_all, list_any, sum_by}
 use Rattle.bundle_names.proofs.BodiesInTurn.{all_alike, few_nodes}

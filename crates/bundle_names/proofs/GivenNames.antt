@@ -1,8 +1,6 @@
 -- What was given, with one new name more.
-use Rattle.std.specs.Prelude.{◌≡◌, ◌≤◌, ◌<◌, ◌+◌, ℕ, suc, Bool, true, false, cond, ◌&&◌, ◌||◌, IsTrue, IsFalse, List, [], ◌∷◌, ◌++◌, bytes_eq, Option, Some}
-use Rattle.std.specs.BTreeMap.{BTreeMap, get_by}
-use Rattle.std.specs.BTreeSet.{BTreeSet, contains_text}
-use Rattle.std.specs.Option.{unwrap_or}
+use Rattle.std.specs.Prelude.{◌≡◌, ◌≤◌, ◌<◌, ℕ, Bool, true, false, cond, ◌&&◌, ◌||◌, IsTrue, IsFalse, List, [], ◌∷◌, ◌++◌, bytes_eq}
+use Rattle.std.specs.BTreeSet.{contains_text}
 use Rattle.std.proofs.Common.{refl, sym, ap, ap₂, subst, ◌∙◌, arith, inl, inr, ◌⊎◌}
 use Rattle.std.proofs.lemmas.Bool.{cases_lt, or_right}
 use Rattle.std.proofs.lemmas.List.Folds.{list_any-append}
@@ -12,7 +10,7 @@ use Rattle.bundle_names.specs.NameSets.{HoldsNames, has_name}
 use Rattle.bundle_names.specs.declared.given.Given.{Given}
 use Rattle.bundle_names.specs.declared.names.Names.{Names}
 use Rattle.bundle_rules.specs.Mentions.{Mention}
-use Rattle.bundle_rules.specs.NewNames.{IsLeast, IsNewName, Modules, is_named_in, is_taken, needs_new_name, numbered}
+use Rattle.bundle_rules.specs.NewNames.{IsNewName, Modules, is_named_in, is_taken, needs_new_name, numbered}
 use Rattle.list_laws.proofs.Tests.{tests_agree}
 use Rattle.scope_rules.proofs.SameNames.{same_name_tells}
 use Rattle.scope_rules.specs.Bindings.{same_name}

@@ -1,5 +1,5 @@
 -- Programs that are modules without hashbangs, one after another, are a program, if they are small enough together.
-use Rattle.std.proofs.Common.{◌≡◌, ◌<◌, ◌≤◌, ◌^◌, ℕ, zero, suc, ◌+◌, max, Bool, true, false, ◌&&◌, ◌||◌, cond, List, [], ◌∷◌, codes, IsUtf8, Option, Some, None, option_and_then, option_map, map, sum, refl, sym, ap, ap₂, subst, ◌∙◌, arith}
+use Rattle.std.proofs.Common.{◌≡◌, ◌<◌, ◌≤◌, ◌^◌, ℕ, ◌+◌, max, Bool, true, false, ◌&&◌, List, [], ◌∷◌, codes, IsUtf8, Option, option_and_then, option_map, refl, sym, ap, ap₂, subst, ◌∙◌, arith}
 use Rattle.std.proofs.lemmas.Bool.{and_from, and_parts, both_ways}
 use Rattle.std.proofs.lemmas.Str.{IsUtf8-from_ascii}
 use Rattle.std.specs.List.{AllByRecursion, sum_by}
@@ -12,12 +12,12 @@ use Rattle.bundle_rules.specs.Joined.{bodies, body, joined, module_of}
 use Rattle.bundle_rules.specs.Moves.{IsBare}
 use Rattle.json_text.proofs.Units.{AreCodeUnits-units_of, text_of_units-units_of}
 use Rattle.tree_core.proofs.AsciiTexts.{ascii_text}
-use Rattle.tree_core.proofs.Fits.{FitFields, FitItems, Fits, FitsAtom, TakesList}
+use Rattle.tree_core.proofs.Fits.{FitFields, FitItems, Fits, FitsAtom}
 use Rattle.tree_core.proofs.FitsBack.{tree_back}
 use Rattle.tree_core.proofs.ReadTrees.{tree_of-placed}
 use Rattle.tree_core.proofs.ReadsBack.{shape_read, tree_fits}
 use Rattle.tree_core.specs.LongestText.{longest_text}
-use Rattle.tree_core.specs.NodeCount.{node_count, nodes_in}
+use Rattle.tree_core.specs.NodeCount.{nodes_in}
 use Rattle.tree_core.specs.Program.{IsProgram}
 use Rattle.tree_core.specs.Reading.{one, word_number}
 use Rattle.tree_core.specs.Values.{value_of}
@@ -26,7 +26,7 @@ use Rattle.tree_nodes.specs.Along.{all, each}
 use Rattle.tree_nodes.specs.Look.{onto, parts_len}
 use Rattle.tree_nodes.specs.Standing.{group_admits, is_placed, is_sound, stands}
 use Rattle.tree_nodes.specs.Table.{Column, inner, node, row, word_list}
-use Rattle.tree_nodes.specs.Tree.{Parts, Text, Tree, alone, atom, child, done, empty, many, word}
+use Rattle.tree_nodes.specs.Tree.{Parts, Text, Tree, atom, child, done, empty, many, word}
 use Rattle.tree_nodes.specs.declared.kind.Kind.{Kind}
 use Rattle.tree_nodes.specs.declared.kind.Kind.TheVariants.{Program}
 use Rattle.tree_nodes.specs.declared.table.Class.TheVariants.{Many, Word}

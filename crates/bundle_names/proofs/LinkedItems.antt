@@ -6,7 +6,7 @@ use Rattle.list_laws.proofs.AnyOf.{any_from, any_map}
 use Rattle.list_laws.proofs.Members.{in_at}
 use Rattle.tree_nodes.proofs.Lists.{past_item, past_items}
 use Rattle.tree_nodes.specs.Look.{are_items, item_at, onto, past}
-use Rattle.tree_nodes.specs.Tree.{Parts, Tree, atom, child, done, many}
+use Rattle.tree_nodes.specs.Tree.{Parts, Tree, done}
 use Rattle.tree_nodes.specs.Views.{item_of}
 
 first_linked : (o : Option Tree) (more : Parts) → is_linked (onto (item_of o) more) ≡ (is_linked (item_of o) || is_linked more)

@@ -1,5 +1,5 @@
 -- What is found of a place of a module.
-use Rattle.std.specs.Prelude.{◌≡◌, ◌<◌, ◌+◌, ℕ, Bool, true, false, not, ◌&&◌, ◌||◌, List, [], ◌∷◌, ◌++◌, length, map, take, slice_get, Option, Some, None, is_some}
+use Rattle.std.specs.Prelude.{◌≡◌, ◌<◌, ℕ, Bool, true, false, not, ◌&&◌, ◌||◌, List, [], ◌∷◌, length, map, slice_get, Option, Some, None, is_some}
 use Rattle.std.proofs.Common.{refl, sym, ap, subst, ◌∙◌, arith}
 use Rattle.std.proofs.lemmas.List.{length-map}
 use Rattle.bundle_names.specs.Views.{mentions_in}
@@ -8,7 +8,7 @@ use Rattle.place_list.proofs.PlacesStand.{mapped_at}
 use Rattle.place_list.specs.Bounds.{IsBelow, IsBounded}
 use Rattle.place_list.specs.TableViews.{list_view, lists_in, place_in, places_in, scope_at}
 use Rattle.place_list.specs.declared.tables.PlaceList.{PlaceList}
-use Rattle.scope_rules.specs.Bindings.{Bound, binding, bound, is_binding, is_node, node, same_name}
+use Rattle.scope_rules.specs.Bindings.{Bound, binding, bound, is_binding, node, same_name}
 use Rattle.scope_rules.specs.Evals.{is_eval}
 use Rattle.scope_rules.specs.Homes.{declares, home, refers}
 use Rattle.scope_tables.proofs.BoundPlaces.{many_places}

@@ -10,7 +10,7 @@ use Rattle.bundle_names.proofs.NamesByNumber.{chosen_names, names_mentioned}
 use Rattle.bundle_names.proofs.PartsInTurn.{as_many, parts_and}
 use Rattle.bundle_names.specs.Given.{HoldsGiven, last_tried}
 use Rattle.bundle_names.specs.Joining.{AreJoined, IsBareProgram}
-use Rattle.bundle_names.specs.NameSets.{PutsAll, has_name}
+use Rattle.bundle_names.specs.NameSets.{PutsAll}
 use Rattle.bundle_names.specs.NewNames.{AreNew, HaveIdentifiers, at_node, choice_by, texts}
 use Rattle.bundle_names.specs.Numbers.{choice, number_of}
 use Rattle.bundle_names.specs.declared.given.Given.{Given}
@@ -21,7 +21,7 @@ use Rattle.bundle_rules.specs.Bundles.{IsPart, modules_of}
 use Rattle.bundle_rules.specs.Joined.{bodies, body, starts_from}
 use Rattle.bundle_rules.specs.Mentions.{Mention, mentions_of}
 use Rattle.bundle_rules.specs.Moves.{IsBare}
-use Rattle.bundle_rules.specs.NewNames.{Modules, names_after, needing}
+use Rattle.bundle_rules.specs.NewNames.{Modules, needing}
 use Rattle.list_laws.proofs.AllOf.{AllOf_push}
 use Rattle.list_laws.proofs.Tests.{some_one}
 use Rattle.place_list.proofs.PlacesStand.{mapped_at, read_at}

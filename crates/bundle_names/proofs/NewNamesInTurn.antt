@@ -1,9 +1,9 @@
 -- The new names of a module, with one more.
-use Rattle.std.specs.Prelude.{◌≡◌, ◌<◌, ℕ, suc, ◌+◌, Bool, true, false, cond, take, get_or, string_bytes, IsTrue, List, [], ◌∷◌, ◌++◌, map, filter, length, nat_eq, Option, Some}
+use Rattle.std.specs.Prelude.{◌≡◌, ◌<◌, ℕ, ◌+◌, Bool, true, false, cond, take, get_or, string_bytes, IsTrue, List, [], ◌∷◌, ◌++◌, map, filter, length, nat_eq, Some}
 use Rattle.std.specs.BTreeMap.{is_at}
 use Rattle.std.specs.Map.{lookup}
 use Rattle.std.specs.Ordering.{nat_cmp}
-use Rattle.std.proofs.Common.{refl, sym, ap, subst, ◌∙◌, arith}
+use Rattle.std.proofs.Common.{sym, ap, subst, ◌∙◌, arith}
 use Rattle.std.proofs.lemmas.List.{append-nil, get_or_default, map_more}
 use Rattle.std.proofs.lemmas.List.Elements.{filter-append}
 use Rattle.bundle_names.proofs.GivenNames.{needs_told}

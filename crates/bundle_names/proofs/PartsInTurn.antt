@@ -1,5 +1,5 @@
 -- One module more, and one new name more.
-use Rattle.std.proofs.Common.{◌≡◌, ℕ, suc, List, [], ◌∷◌, ◌++◌, length, map, refl, sym, ap, subst, ◌∙◌, append_assoc}
+use Rattle.std.proofs.Common.{◌≡◌, suc, List, [], ◌∷◌, ◌++◌, length, map, refl, sym, ap, subst, append_assoc}
 use Rattle.std.proofs.lemmas.List.{append-nil}
 use Rattle.bundle_rules.specs.Bundles.{AreParts, IsPart}
 use Rattle.bundle_rules.specs.Mentions.{Mention, mentions_of}

@@ -1,19 +1,17 @@
 -- What is asked of each module, with one module more, and what is so found of all.
 use Rattle.std.specs.Prelude.{◌≡◌, ◌≤◌, ◌<◌, ◌+◌, ◌^◌, ℕ, Bool, true, false, ◌&&◌, not, nat_eq, List, [], ◌∷◌, ◌++◌, map, sum, length, take, get_or}
 use Rattle.std.specs.List.{list_all, list_any, sum_by}
-use Rattle.std.proofs.Common.{refl, sym, ap, ap₂, ◌∙◌, arith}
+use Rattle.std.proofs.Common.{sym, ap, ap₂, ◌∙◌, arith}
 use Rattle.std.proofs.lemmas.Bool.{le-leb, leb-false, lt-leb}
 use Rattle.std.proofs.lemmas.List.{length-map, map-append, map_more}
 use Rattle.std.proofs.lemmas.List.Folds.{list_all-map}
 use Rattle.std.proofs.lemmas.List.Sums.{sum-map, sum_by-take-le, sum_by_more}
 use Rattle.bundle_names.specs.Causes.{AreModulesOf, IsModuleOf, are_plain, are_too_large, have_fault, is_faulty}
-use Rattle.bundle_names.specs.Views.{mention_views, module_view, modules_in}
+use Rattle.bundle_names.specs.Views.{mention_views, module_view}
 use Rattle.bundle_names.specs.declared.mention.Mention as declared
 use Rattle.bundle_names.specs.declared.survey.Module.{Module}
 use Rattle.bundle_rules.proofs.Counted.{walk_nodes}
-use Rattle.bundle_rules.specs.Bundles.{modules_of}
 use Rattle.bundle_rules.specs.Mentions.{Mention, mentions_of}
-use Rattle.bundle_rules.specs.NewNames.{Modules}
 use Rattle.bundle_rules.specs.Plain.{is_bare_module, is_barred, is_plain_module}
 use Rattle.list_laws.proofs.AnyOf.{any_map}
 use Rattle.place_list.specs.TableViews.{withs_in}

@@ -1,5 +1,5 @@
 -- When modules aren't joined.
-use Rattle.std.specs.Prelude.{◌≡◌, ◌^◌, ℕ, Bool, IsTrue, IsFalse, List, map, nat_le, sum}
+use Rattle.std.specs.Prelude.{◌≡◌, ◌^◌, Bool, IsTrue, IsFalse, List, map, nat_le, sum}
 use Rattle.std.specs.List.{list_all, list_any}
 use Rattle.bundle_names.specs.Views.{module_view, modules_in}
 use Rattle.bundle_names.specs.declared.error.BundleError.{BundleError}

@@ -1,5 +1,5 @@
 -- Bodies of modules, one after another.
-use Rattle.std.specs.Prelude.{◌≡◌, List, [], map}
+use Rattle.std.specs.Prelude.{◌≡◌, List, []}
 use Rattle.std.specs.List.{AllByRecursion}
 use Rattle.bundle_names.specs.Given.{HoldsGiven}
 use Rattle.bundle_names.specs.declared.given.Given.{Given}

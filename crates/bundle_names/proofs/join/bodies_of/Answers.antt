@@ -1,4 +1,4 @@
-use Rattle.std.proofs.Common.{◌≡◌, ◌≤◌, ◌+◌, ◌++◌, ◌∷◌, [], List, ap, arith, length, subst, sym, take, ◌∙◌}
+use Rattle.std.proofs.Common.{◌≡◌, ◌+◌, ◌++◌, ◌∷◌, [], List, ap, arith, length, subst, sym, take, ◌∙◌}
 use Rattle.std.proofs.lemmas.List.{length-map, take_more}
 use Rattle.bundle_names.proofs.ModulesInTurn.{none_joined, same_at}
 use Rattle.bundle_names.specs.Joining.{AreJoined}

@@ -1,4 +1,4 @@
-use Rattle.std.proofs.Common.{◌≡◌, ℕ, Bool, false, Option, subst, sym}
+use Rattle.std.proofs.Common.{◌≡◌, ℕ, false, Option, subst, sym}
 use Rattle.bundle_names.proofs.MentionsFound.{known_below, nowhere_told, root_told}
 use Rattle.bundle_rules.specs.Mentions as spec
 use Rattle.place_list.specs.TableViews.{scope_at}

@@ -1,4 +1,4 @@
-use Rattle.std.proofs.Common.{◌≡◌, ◌+◌, ◌∷◌, ◌++◌, [], List, get_or, take, ap, subst, sym, ◌∙◌}
+use Rattle.std.proofs.Common.{◌≡◌, ◌+◌, ◌∷◌, ◌++◌, [], List, get_or, take, ap, subst, sym}
 use Rattle.std.specs.BTreeMap.{is_at}
 use Rattle.std.specs.Borrow.{Bor}
 use Rattle.std.specs.Cmp.Lexicographic.{slice_cmp}
@@ -9,7 +9,6 @@ use Rattle.bundle_names.proofs.NameSets.{module_put}
 use Rattle.bundle_names.specs.NameSets.{HoldsNames, PutsAll}
 use Rattle.bundle_names.specs.Views.{mention_views, module_view, modules_in}
 use Rattle.bundle_names.specs.declared.names.Use.TheVariants.{Unresolved, Variable}
-use Rattle.bundle_names.specs.declared.survey.Module.{Module}
 use Rattle.bundle_rules.specs.Mentions.{Mention}
 use Rattle.bundle_rules.specs.NewNames.{Modules, is_named_in}
 use Rattle.bundle_names.proofs.names.names_of.Goals as goal

@@ -1,10 +1,10 @@
-use Rattle.std.proofs.Common.{◌≡◌, ◌<◌, ◌^◌, ℕ, Bool, true, false, cond, bytes_eq, IsTrue, List, Option, Some, String, string_bytes, ap, arith, refl, rules, subst, sym, ◌∙◌}
+use Rattle.std.proofs.Common.{◌≡◌, ◌<◌, ◌^◌, ℕ, Bool, true, false, cond, bytes_eq, IsTrue, Option, Some, string_bytes, ap, arith, refl, rules, subst, sym, ◌∙◌}
 use Rattle.std.specs.BTreeSet.{contains_text}
 use Rattle.std.specs.Option.{unwrap_or}
 use Rattle.std.proofs.lemmas.Map.Text.{btree_map_updates_str, btree_set_updates_text}
 use Rattle.bundle_names.proofs.GivenNames.{is_new_name, still_given}
 use Rattle.bundle_names.proofs.NumberedNames.{numbered_identifier}
-use Rattle.bundle_names.specs.Given.{is_taken_by, last_tried}
+use Rattle.bundle_names.specs.Given.{is_taken_by}
 use Rattle.bundle_rules.specs.NewNames.{numbered}
 use Rattle.scope_rules.specs.Bindings.{same_name}
 use Rattle.scope_tables.proofs.MarkedSets.{put_number}

@@ -1,7 +1,7 @@
-use Rattle.std.proofs.Common.{◌≡◌, ◌∷◌, ◌++◌, [], ap, arith, length, map, string_bytes, sym, ◌∙◌}
+use Rattle.std.proofs.Common.{◌≡◌, ◌∷◌, ◌++◌, [], ap, arith, length, map, string_bytes, ◌∙◌}
 use Rattle.std.proofs.lemmas.List.{length-map, map-append}
 use Rattle.bundle_names.proofs.NewNamesInTurn.{one_new_more}
-use Rattle.bundle_names.specs.NewNames.{at_node, texts}
+use Rattle.bundle_names.specs.NewNames.{texts}
 use Rattle.bundle_names.specs.Views.{mention_view}
 use Rattle.scope_tables.proofs.MarkedSets.{set_at}
 use Rattle.bundle_names.proofs.new_names.add.Goals as goal

@@ -1,4 +1,4 @@
-use Rattle.std.proofs.Common.{map, sym, ◌∙◌}
+use Rattle.std.proofs.Common.{sym, ◌∙◌}
 use Rattle.bundle_names.proofs.LinkedItems.{one_passes}
 use Rattle.bundle_names.specs.Views.{mention_view}
 use Rattle.bundle_rules.specs.Plain.{is_barred}

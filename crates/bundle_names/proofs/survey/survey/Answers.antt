@@ -1,4 +1,4 @@
-use Rattle.std.proofs.Common.{◌≡◌, ◌≤◌, ◌+◌, List, ap, arith, map, subst, sum, take, take_all, ◌∙◌}
+use Rattle.std.proofs.Common.{◌≡◌, ◌+◌, List, ap, arith, map, subst, sum, take, take_all, ◌∙◌}
 use Rattle.bundle_names.proofs.SurveyedModules.{few_in_all, many_in_all, nodes_counted, nodes_more, one_surveyed_more}
 use Rattle.bundle_names.specs.Causes.{IsModuleOf}
 use Rattle.tree_nodes.specs.NodeCount.{node_count}
