@@ -3,8 +3,8 @@
 others that are installed: terser, uglifyjs, esbuild. The others print anew, so that
 comments and spaces go too; mangle-js leaves them.
 
-Words: files. `$MANGLE` is the program, else the one built here. Each runs three times; the least time counts, the start of Node with it.
-Debian's terser under another Node than Debian's needs NODE_PATH=/usr/share/nodejs."""
+Words: files. `$MANGLE` is the program, else the one built here. Each runs three times; the least time counts, the start of Node with it."""
+import os
 import pathlib
 import shutil
 import subprocess
@@ -20,13 +20,17 @@ TOOLS = {
     "esbuild": ["esbuild", "--minify-identifiers"],
 }
 
+# Debian's terser looks for its libraries where Debian's Node does, and any other Node only by NODE_PATH.
+LIBRARIES = [path for path in [os.environ.get("NODE_PATH"), "/usr/share/nodejs"] if path]
+ENVIRONMENT = {**os.environ, "NODE_PATH": os.pathsep.join(LIBRARIES)}
+
 
 def run(command):
     """The output's bytes and the least of three times, or nothing where it fails."""
     times = []
     for _ in range(3):
         begun = time.monotonic()
-        done = subprocess.run(command, capture_output=True)
+        done = subprocess.run(command, capture_output=True, env=ENVIRONMENT)
         times.append(time.monotonic() - begun)
         if done.returncode != 0:
             return None
