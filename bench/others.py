@@ -1,9 +1,10 @@
 #!/usr/bin/env python3
 """Prints, for files of JavaScript, how many bytes are left and how long it takes with names mangled by this program and by
-others that are installed: terser, uglifyjs, esbuild. The others print anew, so that
-comments and spaces go too; mangle-js leaves them.
+others that are installed: terser, uglifyjs, esbuild. The others print anew, in a layout of their own, so that comments go too;
+mangle-js leaves all but names.
 
-Words: files. `$MANGLE` is the program, else the one built here. Each runs three times; the least time counts, the start of Node with it."""
+Words: files. `$MANGLE` is the program, else the one built here. Each runs three times; the least time counts, the start of Node
+with it."""
 import os
 import pathlib
 import shutil
@@ -15,7 +16,7 @@ ADAPTER = pathlib.Path(__file__).resolve().parent.parent / "adapters/js/bin/mang
 
 TOOLS = {
     "mangle-js": ["node", str(ADAPTER)],
-    "terser": ["terser", "--mangle", "--beautify", "--"],
+    "terser": ["terser", "--mangle", "--format", "beautify=true", "--"],
     "uglifyjs": ["uglifyjs", "--mangle", "--beautify", "--"],
     "esbuild": ["esbuild", "--minify-identifiers"],
 }
