@@ -1,10 +1,11 @@
 #!/usr/bin/env python3
 """Prints, for files of JavaScript, how many bytes are left and how long it takes with names mangled by this program and by
-others that are installed: terser, uglifyjs, esbuild. The others print anew, so that
-comments and spaces go too; mangle-js leaves them.
+others that are installed: terser, uglifyjs, esbuild. The others print anew, in a layout of their own, so that comments go too;
+mangle-js leaves all but names.
 
-Words: files. `$MANGLE` is the program, else the one built here. Each runs three times; the least time counts, the start of Node with it.
-Debian's terser under another Node than Debian's needs NODE_PATH=/usr/share/nodejs."""
+Words: files. `$MANGLE` is the program, else the one built here. Each runs three times; the least time counts, the start of Node
+with it."""
+import os
 import pathlib
 import shutil
 import subprocess
@@ -15,10 +16,14 @@ ADAPTER = pathlib.Path(__file__).resolve().parent.parent / "adapters/js/bin/mang
 
 TOOLS = {
     "mangle-js": ["node", str(ADAPTER)],
-    "terser": ["terser", "--mangle", "--beautify", "--"],
+    "terser": ["terser", "--mangle", "--format", "beautify=true", "--"],
     "uglifyjs": ["uglifyjs", "--mangle", "--beautify", "--"],
     "esbuild": ["esbuild", "--minify-identifiers"],
 }
+
+# Debian's terser looks for its libraries where Debian's Node does, and any other Node only by NODE_PATH.
+LIBRARIES = [path for path in [os.environ.get("NODE_PATH"), "/usr/share/nodejs"] if path]
+ENVIRONMENT = {**os.environ, "NODE_PATH": os.pathsep.join(LIBRARIES)}
 
 
 def run(command):
@@ -26,7 +31,7 @@ def run(command):
     times = []
     for _ in range(3):
         begun = time.monotonic()
-        done = subprocess.run(command, capture_output=True)
+        done = subprocess.run(command, capture_output=True, env=ENVIRONMENT)
         times.append(time.monotonic() - begun)
         if done.returncode != 0:
             return None

@@ -1,0 +1,5 @@
+module.exports = function e(t) {
+  let n = 0;
+  for (const e of t) n += e;
+  return n;
+};

@@ -1,0 +1,5 @@
+module.exports = function total(numbers) {
+  let sum = 0;
+  for (const number of numbers) sum += number;
+  return sum;
+};
