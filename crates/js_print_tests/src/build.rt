@@ -73,11 +73,17 @@ pub fn array(alloc: Global, items: Vec<Option<Node>>) -> Made {
 }
 
 pub fn sequence(alloc: Global, items: Vec<Option<Node>>) -> Made {
-    Ok(node(Kind::SequenceExpression, vec![in alloc; list(alloc, items)]?))
+    Ok(node(
+        Kind::SequenceExpression,
+        vec![in alloc; list(alloc, items)]?,
+    ))
 }
 
 pub fn spread(alloc: Global, argument: Node) -> Made {
-    Ok(node(Kind::SpreadElement, vec![in alloc; child(alloc, argument)?]?))
+    Ok(node(
+        Kind::SpreadElement,
+        vec![in alloc; child(alloc, argument)?]?,
+    ))
 }
 
 pub fn unary(alloc: Global, operator: u8, argument: Node) -> Made {

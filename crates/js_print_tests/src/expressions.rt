@@ -1,8 +1,8 @@
 //! Expressions of each form, their texts by hand.
 
 use crate::build::{
-    Made, array, assignment, call, conditional, construct, fraction, index, infix, member, name, null,
-    number, private_member, sequence, spread, string, this, truth, unary, update,
+    Made, array, assignment, call, conditional, construct, fraction, index, infix, member, name,
+    null, number, private_member, sequence, spread, string, this, truth, unary, update,
 };
 use js_print::{PrintError, Token, is_printable, print_tokens, tokens_text};
 use std::alloc::{AllocError, Global};
@@ -55,7 +55,12 @@ fn called(alloc: Global) -> Made {
 fn arithmetic(alloc: Global) -> Made {
     let sum = binary(alloc, 8, a(alloc)?, b(alloc)?)?;
     let product = binary(alloc, 10, sum, c(alloc)?)?;
-    let power = binary(alloc, 13, name(alloc, "d")?, unary(alloc, 1, name(alloc, "e")?)?)?;
+    let power = binary(
+        alloc,
+        13,
+        name(alloc, "d")?,
+        unary(alloc, 1, name(alloc, "e")?)?,
+    )?;
     binary(alloc, 9, product, power)
 }
 
@@ -85,7 +90,11 @@ fn prefixes_stand_together(rt: HostRuntime) -> Result<(), Fail> {
     assert!(rt; prints(alloc, twice, "- - a")?);
     let plus = unary(alloc, 0, update(alloc, 0, true, a(alloc)?)?)?;
     assert!(rt; prints(alloc, plus, "+ ++ a")?);
-    let typed = unary(alloc, 4, update(alloc, 1, false, index(alloc, a(alloc)?, b(alloc)?)?)?)?;
+    let typed = unary(
+        alloc,
+        4,
+        update(alloc, 1, false, index(alloc, a(alloc)?, b(alloc)?)?)?,
+    )?;
     assert!(rt; prints(alloc, typed, "typeof a [ b ] --")?);
     Ok(())
 }
@@ -93,9 +102,21 @@ fn prefixes_stand_together(rt: HostRuntime) -> Result<(), Fail> {
 #[test]
 fn callees_of_new(rt: HostRuntime) -> Result<(), Fail> {
     let alloc = rt.alloc();
-    assert!(rt; prints(alloc, constructed(alloc)?, "new ( a ( ) . b ) ( 1 , \"x\" )")?);
+    assert!(rt;
+        prints(
+            alloc,
+            constructed(alloc)?,
+            "new ( a ( ) . b ) ( 1 , \"x\" )"
+        )?
+    );
     let chain = member(alloc, member(alloc, called(alloc)?, "b")?, "c")?;
-    assert!(rt; prints(alloc, construct(alloc, chain, Vec::new(alloc))?, "new ( a ( ) . b . c ) ( )")?);
+    assert!(rt;
+        prints(
+            alloc,
+            construct(alloc, chain, Vec::new(alloc))?,
+            "new ( a ( ) . b . c ) ( )"
+        )?
+    );
     let call = construct(alloc, called(alloc)?, Vec::new(alloc))?;
     assert!(rt; prints(alloc, call, "new ( a ( ) ) ( )")?);
     let plain = construct(alloc, member(alloc, a(alloc)?, "b")?, Vec::new(alloc))?;
@@ -125,7 +146,12 @@ fn conditionals_and_assignments(rt: HostRuntime) -> Result<(), Fail> {
     let last = conditional(alloc, truth(alloc, true)?, truth(alloc, false)?, inner)?;
     assert!(rt; prints(alloc, last, "true ? false : a ? b : c")?);
     let set = assignment(alloc, 0, a(alloc)?, b(alloc)?)?;
-    let tested = conditional(alloc, set, b(alloc)?, assignment(alloc, 15, a(alloc)?, c(alloc)?)?)?;
+    let tested = conditional(
+        alloc,
+        set,
+        b(alloc)?,
+        assignment(alloc, 15, a(alloc)?, c(alloc)?)?,
+    )?;
     assert!(rt; prints(alloc, tested, "( a = b ) ? b : a ??= c")?);
     Ok(())
 }
@@ -134,7 +160,13 @@ fn conditionals_and_assignments(rt: HostRuntime) -> Result<(), Fail> {
 fn names_and_strings(rt: HostRuntime) -> Result<(), Fail> {
     let alloc = rt.alloc();
     assert!(rt; prints(alloc, member(alloc, a(alloc)?, "new")?, "a . new")?);
-    assert!(rt; prints(alloc, string(alloc, &[0xD800, 34, 0xE9])?, "\"\\ud800\\\"é\"")?);
+    assert!(rt;
+        prints(
+            alloc,
+            string(alloc, &[0xD800, 34, 0xE9])?,
+            "\"\\ud800\\\"é\""
+        )?
+    );
     let most = number(alloc, 18_446_744_073_709_551_615)?;
     assert!(rt; prints(alloc, most, "18446744073709551615")?);
     Ok(())
@@ -155,7 +187,12 @@ fn parts_that_are_unprintable(rt: HostRuntime) -> Result<(), Fail> {
     let alloc = rt.alloc();
     assert!(rt; is_refused(alloc, array(alloc, vec![in alloc; Some(a(alloc)?), None]?)?));
     let spread = spread(alloc, b(alloc)?)?;
-    assert!(rt; is_refused(alloc, call(alloc, a(alloc)?, vec![in alloc; Some(spread)]?, false)?));
+    assert!(rt;
+        is_refused(
+            alloc,
+            call(alloc, a(alloc)?, vec![in alloc; Some(spread)]?, false)?
+        )
+    );
     assert!(rt; is_refused(alloc, sequence(alloc, vec![in alloc; Some(a(alloc)?)]?)?));
     assert!(rt; is_refused(alloc, assignment(alloc, 0, called(alloc)?, a(alloc)?)?));
     Ok(())

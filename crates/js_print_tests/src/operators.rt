@@ -103,8 +103,17 @@ fn pair_prints(alloc: Global, outer: u8, inner: u8) -> Result<bool, AllocError> 
     let left = between(alloc, outer, left, name(alloc, "c")?)?;
     let right = between(alloc, inner, name(alloc, "b")?, name(alloc, "c")?)?;
     let right = between(alloc, outer, name(alloc, "a")?, right)?;
-    Ok(prints(alloc, &left, left_text(alloc, outer_row, inner_row)?.as_str())?
-        && prints(alloc, &right, right_text(alloc, outer_row, inner_row)?.as_str())?)
+    Ok(
+        prints(
+            alloc,
+            &left,
+            left_text(alloc, outer_row, inner_row)?.as_str(),
+        )? && prints(
+            alloc,
+            &right,
+            right_text(alloc, outer_row, inner_row)?.as_str(),
+        )?,
+    )
 }
 
 #[test]
