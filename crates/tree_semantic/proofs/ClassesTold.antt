@@ -5,6 +5,7 @@ use Rattle.std.proofs.Common.{refl, sym, ap, ◌∙◌, subst, arith, add-one}
 use Rattle.std.proofs.lemmas.List.{get_or-map, length-map, length_push, map_push, take_all, take_more}
 use Rattle.std.proofs.lemmas.List.FromFn.{map-range_with_len_more}
 use Rattle.std.proofs.lemmas.Simd.{map-map}
+use Rattle.list_laws.proofs.AllOf.{AllOf_push}
 use Rattle.number_tables.specs.PlacedNumbers as numbers
 use Rattle.number_tables.specs.PlacedNumbers.{number_at}
 use Rattle.place_list.proofs.PlacesStand.{stands_for_place}
@@ -20,7 +21,7 @@ use Rattle.syntax_sem.specs.ClassId as class_id
 use Rattle.tree_nodes.specs.Tree.{Text}
 use Rattle.tree_places.specs.Laws as laws
 use Rattle.tree_places.specs.Places.{Place}
-use Rattle.tree_semantic.specs.ClassBodies.{AreClassesOf, AreRowsOf, IsRowOf, LeadOutwards, class_of_place, node_class, nodes_of, parents_in}
+use Rattle.tree_semantic.specs.ClassBodies.{AreClassesOf, AreHashed, AreRowsOf, IsRowOf, LeadOutwards, class_of_place, node_class, nodes_of, parents_in}
 use Rattle.tree_semantic.specs.declared.classes.ClassRow.{ClassRow}
 use Rattle.tree_semantic.specs.declared.classes.Classes.{Classes}
 use Rattle.tree_symbols.proofs.Filtered.{first_found}
@@ -41,7 +42,7 @@ by_node l n =
 -- ---- one class after another
 
 pub no_rows : (l : PlaceList) (parents : List (Option ℕ)) → AreRowsOf l parents 0 []
-no_rows l parents = record { many = refl; parents_are = refl; names = refl; are_open = refl }
+no_rows l parents = record { many = refl; parents_are = refl; names = refl; hashed = tt; are_open = refl }
 
 pub rows_more : (l : PlaceList) (parents : List (Option ℕ)) (count : ℕ) (rs : List ClassRow) (r : ClassRow) (more : List ClassRow) → count < length parents → AreRowsOf l parents count rs → IsRowOf l (get_or parents count None) count r
     → more ≡ rs ++ r ∷ [] → AreRowsOf l parents (count + 1) more
@@ -54,6 +55,7 @@ rows_more l parents count rs r more inside a one pushed =
       names = map_push (λ (q : ClassRow). map ident_text q.names.items) rs r ∙ ap (λ (ns : List (List Text)). ns ++ map ident_text r.names.items ∷ []) a.names
           ∙ ap (λ (n : List Text). map (names.private_names (places_in l)) (range_with_len 0 count) ++ n ∷ []) one.names
           ∙ sym (map-range_with_len_more (names.private_names (places_in l)) 0 count count (omega arith));
+      hashed = AllOf_push AreHashed rs r a.hashed one.hashed;
       are_open = map_push (λ (q : ClassRow). q.is_open) rs r ∙ ap (λ (bs : List Bool). bs ++ r.is_open ∷ []) a.are_open
           ∙ ap (λ (b : Bool). map (evals.is_open (places_in l)) (range_with_len 0 count) ++ b ∷ []) one.is_open
           ∙ sym (map-range_with_len_more (evals.is_open (places_in l)) 0 count count (omega arith));
@@ -69,6 +71,7 @@ classes_are l parents c told lead a by bound = record {
   class_count = a.many;
   outwards = subst (λ (os : List (Option ℕ)). AllByRecursion (λ (p : Place). LeadOutwards os p.site.setting.classes) (places_in l)) (sym told) lead;
   names = a.names;
+  hashed = a.hashed;
   are_open = a.are_open;
   by_node = by;
   bound = bound;

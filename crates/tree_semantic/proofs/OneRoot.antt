@@ -20,7 +20,7 @@ use Rattle.tree_nodes.specs.declared.table.Class.TheVariants.{Flag}
 use Rattle.tree_nodes.specs.declared.table.Mark.{Mark}
 use Rattle.tree_nodes.specs.declared.table.Mark.TheVariants.{Usual}
 use Rattle.tree_nodes.specs.declared.table.Opens.{Opens}
-use Rattle.tree_nodes.specs.declared.table.Opens.TheVariants.{BareBlock, Block, ClassMembers, Hoisting, NameHere, Nothing, PrivateNameHere, WithBody}
+use Rattle.tree_nodes.specs.declared.table.Opens.TheVariants.{BareBlock, Block, Hoisting, Nothing, WithBody}
 use Rattle.tree_nodes.specs.declared.table.Role.{Role}
 use Rattle.tree_nodes.specs.declared.table.Role.TheVariants.{Plain}
 use Rattle.tree_places.specs.Open.{all_open}

@@ -1,7 +1,7 @@
 -- The classes of a tree by ids, as data.
 use Rattle.std.specs.Prelude.{◌≡◌, ℕ, Bool, false, List, [], ◌∷◌, map, length, take, get_or, Option, Some, None, is_some, option_map, find, nat_eq, ⊤, if◌then◌else◌}
 use Rattle.std.specs.List.{AllByRecursion, range_with_len}
-use Rattle.oxc_str.specs.Ident.{ident_text}
+use Rattle.oxc_str.specs.Ident.{IsHashed, ident_text}
 use Rattle.place_list.specs.TableViews.{places_in}
 use Rattle.place_list.specs.declared.tables.PlaceEntry.{PlaceEntry}
 use Rattle.place_list.specs.declared.tables.PlaceList.{PlaceList}
@@ -23,6 +23,10 @@ parents_in c = map (λ r. option_map class_id.number_of r.parent) c.rows.items
 -- its distinct private names
 abbrev pub names_in : Classes → List (List Text)
 names_in c = map (λ r. map ident_text r.names.items) c.rows.items
+
+-- each of its names has its hash
+abbrev pub AreHashed : ClassRow → Type 0
+AreHashed r = AllByRecursion IsHashed r.names.items
 
 -- whether a direct eval stands in its body
 abbrev pub open_in : Classes → List Bool
@@ -52,6 +56,7 @@ nodes_of es = map (λ e. e.node) es
 pub record IsRowOf (l : PlaceList) (parent : Option ℕ) (c : ℕ) (r : ClassRow) : Type 0 where
   pub parent_is : option_map class_id.number_of r.parent ≡ parent
   pub names : map ident_text r.names.items ≡ names.private_names (places_in l) c
+  pub hashed : AreHashed r
   pub is_open : r.is_open ≡ evals.is_open (places_in l) c
 
 -- these are the rows of the first so many classes of a list, in the class bodies of these numbers
@@ -59,6 +64,7 @@ pub record AreRowsOf (l : PlaceList) (parents : List (Option ℕ)) (count : ℕ)
   pub many : length rs ≡ count
   pub parents_are : map (λ r. option_map class_id.number_of r.parent) rs ≡ take count parents
   pub names : map (λ r. map ident_text r.names.items) rs ≡ map (names.private_names (places_in l)) (range_with_len 0 count)
+  pub hashed : AllByRecursion AreHashed rs
   pub are_open : map (λ r. r.is_open) rs ≡ map (evals.is_open (places_in l)) (range_with_len 0 count)
 
 -- these are the classes of the tree whose places these are, so many
@@ -66,6 +72,7 @@ pub record AreClassesOf (ps : List Place) (count : ℕ) (c : Classes) : Type 0 w
   pub class_count : length c.rows.items ≡ count
   pub outwards : AllByRecursion (λ p. LeadOutwards (parents_in c) p.site.setting.classes) ps
   pub names : names_in c ≡ map (names.private_names ps) (range_with_len 0 count)
+  pub hashed : AllByRecursion AreHashed c.rows.items
   pub are_open : open_in c ≡ map (evals.is_open ps) (range_with_len 0 count)
   pub by_node : (n : ℕ) → get_or c.node_classes.items n None ≡ node_class ps n
   -- a private name has a class exactly where it has a binding

@@ -3,7 +3,7 @@
 ghost use Rattle.std.specs.Prelude.{◌≡◌, ◌<◌, ◌≤◌, ◌-◌, ◌^◌, [], ℕ, IfOk, IfSome, IsFalse, List, None, false, get_or, is_some, length, map, option_map, slice_get};
 ghost use Rattle.class_tables.specs.PrivateTables.{IsWhole, list_in};
 ghost use Rattle.number_tables.specs.PlacedNumbers.{RiseFrom};
-ghost use Rattle.oxc_str.specs.Ident.{ident_text};
+ghost use Rattle.oxc_str.specs.Ident.{IsHashed, ident_text};
 ghost use Rattle.std.specs.List.{AllByRecursion};
 ghost use Rattle.place_list.specs.Bounds.{IsBounded};
 ghost use Rattle.place_list.specs.TableViews.{list_view, places_in};
@@ -83,10 +83,11 @@ impl<'t> Classes<'t> {
         self.rows[k].parent
     }
 
-    /// The distinct private names that a class declares, in order.
+    /// The distinct private names that a class declares, in order, each with its hash.
     pub fn private_names(&self, id: ClassId) -> &[Ident<'t>]
         requires { class_id.number_of id < length (parents_in self.now) }
-        ensures { map ident_text result.now ≡ get_or (names_in self.now) (class_id.number_of id) [] }
+        ensures names { map ident_text result.now ≡ get_or (names_in self.now) (class_id.number_of id) [] }
+        ensures hashed { (ps : List Place) (count : ℕ) → AreClassesOf ps count self.now → AllByRecursion IsHashed result.now }
     {
         let k = id.index();
         self.rows[k].names.as_slice()
@@ -165,7 +166,8 @@ fn class_row<'t>(
 
 // Names as identifiers.
 fn idents<'t>(alloc: Global, names: &[&'t str]) -> Result<Vec<Ident<'t>>, AllocError>
-    ensures { IfOk result (λ v. map ident_text v.items ≡ map (λ n. n.now) names.now) }
+    ensures texts { IfOk result (λ v. map ident_text v.items ≡ map (λ n. n.now) names.now) }
+    ensures hashed { IfOk result (λ v. AllByRecursion IsHashed v.items) }
 {
     let mut idents = Vec::new(alloc);
     for name in names {

@@ -2,7 +2,7 @@
 
 ghost use Rattle.std.specs.Prelude.{◌≡◌, ◌<◌, ◌≤◌, ◌-◌, ◌^◌, ℕ, IfOk, IfSome, None, Some, get_or, length, map, option_map, slice_get, unwrap_or, if◌then◌else◌};
 ghost use Rattle.std.specs.List.{AllByRecursion, range_with_len};
-ghost use Rattle.oxc_str.specs.Ident.{ident_text};
+ghost use Rattle.oxc_str.specs.Ident.{IsHashed, ident_text};
 ghost use Rattle.scope_rules.specs.Bindings.{node, same_name};
 ghost use Rattle.scope_rules.specs.Evals.{contains, holds_eval};
 ghost use Rattle.scope_rules.specs.Homes.{home};
@@ -127,11 +127,12 @@ impl<'t> Scoping<'t> {
         self.tables.list.scopes.len()
     }
 
-    /// The name of a symbol in the tree.
+    /// The name of a symbol in the tree, with its hash.
     pub fn symbol_ident(&self, id: SymbolId) -> Ident<'t>
         requires scoping { IsScoping self.now }
         requires id { symbol_id.number_of id < length (symbols same_name (places_of self.now)) }
-        ensures { IfSome (slice_get (symbols same_name (places_of self.now)) (symbol_id.number_of id)) (λ b. ident_text result ≡ b.name) }
+        ensures name { IfSome (slice_get (symbols same_name (places_of self.now)) (symbol_id.number_of id)) (λ b. ident_text result ≡ b.name) }
+        ensures hashed { IsHashed result }
     {
         new_const_ident(self.symbols.name(id.index()))
     }

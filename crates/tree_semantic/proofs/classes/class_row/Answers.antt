@@ -4,6 +4,7 @@ use Rattle.tree_semantic.proofs.classes.class_row.Goals as goal
 pub returns : goal.returns
 returns c = record {
   parent_is = c.class_of.ensures;
-  names = c.in_ok-names.ensures ∙ c.private_names.ensures;
+  names = c.in_ok-names.ensures.texts ∙ c.private_names.ensures;
+  hashed = c.in_ok-names.ensures.hashed;
   is_open = c.is_open.ensures;
 }
