@@ -1,20 +1,24 @@
 -- Modules that are read within the limits of one value aren't too large together.
-use Rattle.std.proofs.Common.{◌≡◌, ℕ, ◌+◌, ◌-◌, ◌≤◌, ◌<◌, ◌^◌, ◌||◌, Bool, false, List, [], ◌∷◌, Option, Some, None, option_and_then, option_map, nat_eq, nat_le, sum, map, codes, refl, sym, ap, ◌∙◌, subst, arith}
+use Rattle.std.proofs.Common.{◌≡◌, ℕ, ◌+◌, ◌-◌, ◌≤◌, ◌<◌, ◌^◌, ◌||◌, ◌++◌, Bool, false, List, [], ◌∷◌, Option, Some, None, option_and_then, option_map, nat_eq, nat_le, length, get_or, drop, sum, map, codes, if◌then◌else◌, refl, sym, ap, ◌∙◌, subst, arith}
 use Rattle.std.proofs.lemmas.Bool.{or_parts}
 use Rattle.std.proofs.lemmas.Bool.Decides.{nat_tests}
+use Rattle.std.proofs.lemmas.List.{drop_more}
 use Rattle.bundle_names.specs.Causes.{are_too_large}
 use Rattle.mangle_tool.proofs.WrappedWithin.{member_within}
+use Rattle.serde_json.proofs.Views.{Entry, members_len-members_view}
 use Rattle.serde_json.specs.Data.{Data, null, boolean, number, string, array, object, Items, no_items, item, Members}
 use Rattle.serde_json.specs.Events.{members_len}
 use Rattle.serde_json.specs.Find.{as_array, get_member}
-use Rattle.tool_commands.specs.Join.{list_in, modules_in, one_in, programs_of}
+use Rattle.serde_json.specs.View.{items_view, members_view, view}
+use Rattle.serde_json.specs.declared.value.Value.{Value}
+use Rattle.tool_commands.specs.Join.{list_in, modules_in, one_among, one_in, programs_of}
 use Rattle.tree_core.proofs.NodeCounts.{few_nodes}
 use Rattle.tree_core.specs.JsonOf.{json_of}
 use Rattle.tree_core.specs.Limits.{has_long_item, has_long_part, is_long_array, is_too_large, objects_in, objects_in_items}
 use Rattle.tree_core.specs.Reading.{tree_of}
 use Rattle.tree_nodes.proofs.Cases.{if_some, map_some, none_some, some_same, then_some}
 use Rattle.tree_nodes.specs.NodeCount.{node_count}
-use Rattle.tree_nodes.specs.Tree.{Tree}
+use Rattle.tree_nodes.specs.Tree.{Text, Tree}
 
 -- ---- values within the limits
 
@@ -48,6 +52,35 @@ pub rest_within : (d : Data) (ds : Items) → AreWithin (item d ds) → AreWithi
 rest_within d ds h =
     let few = h.0 in
     (omega (arith, few), (or_parts (has_long_part d) (has_long_item ds) h.1).1)
+
+-- ---- modules that are read one after another
+
+-- the next value
+pub next_within : (vs : List Value) (i : ℕ) (v : Value) → i < length vs → v ≡ get_or vs i v → AreWithin (items_view (drop i vs)) → is_too_large (view v) 0 ≡ false
+next_within vs i v h is w =
+    let here : drop i vs ≡ v ∷ drop (i + 1) vs = drop_more vs i v h ∙ ap (λ y. y ∷ drop (i + 1) vs) (sym is) in
+    first_within (view v) (items_view (drop (i + 1) vs)) (subst (λ (x : List Value). AreWithin (items_view x)) here w)
+
+none_before : (o : Option (List Tree)) → o ≡ option_map (λ (ts : List Tree). [] ++ ts) o
+none_before None = refl
+none_before (Some ts) = refl
+
+pub none_read : (vs ws : List Value) (ts : List Tree) → vs ≡ ws → ts ≡ [] → is_too_large (array (items_view ws)) 0 ≡ false
+    → AreWithin (items_view vs) × (programs_of (items_view vs) ≡ option_map (λ (us : List Tree). ts ++ us) (programs_of (items_view vs)))
+none_read vs ws ts same none h =
+    (items_within (items_view vs) (subst (λ (x : List Value). is_too_large (array (items_view x)) 0 ≡ false) (sym same) h),
+    rw none (none_before (programs_of (items_view vs))))
+
+-- ---- the only member of an object
+
+module _ (key : Text) where
+  pub one_counted : (es : List Entry) (n : ℕ) → n ≡ length es → n ≡ 1 → one_among key (members_view es) ≡ get_member key (members_view es)
+  one_counted es n e one = ap (λ (k : ℕ). if nat_eq k 1 then get_member key (members_view es) else None) (members_len-members_view es ∙ sym e ∙ one)
+
+  pub others_counted : (es : List Entry) (n : ℕ) → n ≡ length es → nat_eq n 1 ≡ false → one_among key (members_view es) ≡ None
+  others_counted es n e counted =
+      ap (λ (k : ℕ). if nat_eq k 1 then get_member key (members_view es) else None) (members_len-members_view es ∙ sym e)
+      ∙ ap (λ (b : Bool). if b then get_member key (members_view es) else None) counted
 
 -- ---- the array of modules
 
@@ -88,7 +121,8 @@ nodes_of_items (item d ds) ts h e =
     let us = map_some (λ (us : List Tree). t.0 ∷ us) (programs_of ds) ts t.2 in
     let first = nodes_at_most d t.0 (or_parts (has_long_part d) (has_long_item ds) h.1).0 (omega (arith, few)) t.1 in
     let rest = nodes_of_items ds us.0 (rest_within d ds h) us.1 in
-    subst (λ (x : List Tree). sum (map node_count x) ≤ objects_in d + objects_in_items ds) us.2 (omega (arith, first, rest))
+    let split : sum (map node_count (t.0 ∷ us.0)) ≡ node_count t.0 + sum (map node_count us.0) = refl in
+    subst (λ (x : List Tree). sum (map node_count x) ≤ objects_in d + objects_in_items ds) us.2 (omega (arith, first, rest, split))
 
 pub modules_few : (d : Data) (ts : List Tree) → is_too_large d 0 ≡ false → modules_in d ≡ Some ts → are_too_large ts ≡ false
 unfolding are_too_large

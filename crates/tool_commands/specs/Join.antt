@@ -64,8 +64,8 @@ pub record IsJoinedText (modules : List Tree) (text : List ℕ) : Type 0 where
   pub bundle : IsBundle modules joined
   pub faultless : IsFalse (has_fault same_name (places (alone joined)))
   -- every place has the binding that it has in its module, moved, or none in both; no two modules share one
-  pub bindings : bindings same_name (places (alone joined)) ≡ all_moved (bindings same_name) no_moves modules
-  pub private_names : private_bindings same_name (places (alone joined)) ≡ all_moved (private_bindings same_name) no_moves modules
+  pub all_bound : bindings same_name (places (alone joined)) ≡ all_moved (bindings same_name) no_moves modules
+  pub private_bound : private_bindings same_name (places (alone joined)) ≡ all_moved (private_bindings same_name) no_moves modules
   pub apart : AreApart (bindings same_name) no_moves modules × AreApart (private_bindings same_name) no_moves modules
   pub text_is : text ≡ envelope compact (meaning_of joined)
 
