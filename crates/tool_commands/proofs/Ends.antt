@@ -30,6 +30,7 @@ use Rattle.tool_outside.specs.Outside.{EndsUnlessRefused}
 use Rattle.tool_outside.specs.declared.read_all.ReadAllError.TheVariants as read
 use Rattle.tool_outside.specs.declared.work.Outcome.{Outcome}
 use Rattle.tool_outside.specs.declared.work.Outcome.TheVariants.{Done, Unread, Refused, Unwritten}
+use Rattle.tree_nodes.specs.Tree.{Tree}
 use Rattle.tree_core.specs.Limits.{is_too_large}
 
 -- the end of work that leads to this status; Memory has two, and BadArgument none

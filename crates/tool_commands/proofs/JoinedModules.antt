@@ -1,8 +1,10 @@
 -- Modules that are read within the limits of one value aren't too large together.
-use Rattle.std.proofs.Common.{◌≡◌, ℕ, ◌+◌, ◌-◌, ◌≤◌, ◌<◌, ◌^◌, ◌||◌, ◌++◌, Bool, false, List, [], ◌∷◌, Option, Some, None, option_and_then, option_map, nat_eq, nat_le, length, get_or, drop, sum, map, codes, if◌then◌else◌, refl, sym, ap, ◌∙◌, subst, arith}
+use Rattle.std.proofs.Common.{◌≡◌, ℕ, ◌+◌, ◌-◌, ◌≤◌, ◌<◌, ◌^◌, ◌||◌, ◌++◌, Bool, false, List, [], ◌∷◌, Option, Some, None, option_and_then, option_map, nat_eq, nat_le, length, get_or, drop, codes, if◌then◌else◌, refl, sym, ap, ◌∙◌, subst, arith}
 use Rattle.std.proofs.lemmas.Bool.{or_parts}
 use Rattle.std.proofs.lemmas.Bool.Decides.{nat_tests}
 use Rattle.std.proofs.lemmas.List.{drop_more}
+use Rattle.std.proofs.lemmas.List.Sums.{sum-map, sum_by-cons}
+use Rattle.std.specs.List.{sum_by}
 use Rattle.bundle_names.specs.Causes.{are_too_large}
 use Rattle.mangle_tool.proofs.WrappedWithin.{member_within}
 use Rattle.serde_json.proofs.Views.{Entry, members_len-members_view}
@@ -113,16 +115,16 @@ nodes_at_most d t short few e =
     let counted = few_nodes d t more (small d more short (omega (arith, few))) e in
     omega (arith, few, counted)
 
-nodes_of_items : (ds : Items) (ts : List Tree) → AreWithin ds → programs_of ds ≡ Some ts → sum (map node_count ts) ≤ objects_in_items ds
-nodes_of_items no_items ts h e = subst (λ (us : List Tree). sum (map node_count us) ≤ 0) (some_same [] ts e) (omega arith)
+nodes_of_items : (ds : Items) (ts : List Tree) → AreWithin ds → programs_of ds ≡ Some ts → sum_by node_count ts ≤ objects_in_items ds
+nodes_of_items no_items ts h e = subst (λ (us : List Tree). sum_by node_count us ≤ 0) (some_same [] ts e) (omega arith)
 nodes_of_items (item d ds) ts h e =
     let few = h.0 in
     let t = then_some (λ (t : Tree). option_map (λ (us : List Tree). t ∷ us) (programs_of ds)) (tree_of (json_of d)) ts e in
     let us = map_some (λ (us : List Tree). t.0 ∷ us) (programs_of ds) ts t.2 in
     let first = nodes_at_most d t.0 (or_parts (has_long_part d) (has_long_item ds) h.1).0 (omega (arith, few)) t.1 in
     let rest = nodes_of_items ds us.0 (rest_within d ds h) us.1 in
-    let split : sum (map node_count (t.0 ∷ us.0)) ≡ node_count t.0 + sum (map node_count us.0) = refl in
-    subst (λ (x : List Tree). sum (map node_count x) ≤ objects_in d + objects_in_items ds) us.2 (omega (arith, first, rest, split))
+    let split = sum_by-cons node_count t.0 us.0 in
+    subst (λ (x : List Tree). sum_by node_count x ≤ objects_in d + objects_in_items ds) us.2 (omega (arith, first, rest, split))
 
 pub modules_few : (d : Data) (ts : List Tree) → is_too_large d 0 ≡ false → modules_in d ≡ Some ts → are_too_large ts ≡ false
 unfolding are_too_large
@@ -131,4 +133,5 @@ modules_few d ts h e =
     let within = items_within list.0 (list_within d list.0 list.1 h) in
     let nodes = nodes_of_items list.0 ts within list.2 in
     let few = within.0 in
-    grind (arith, nat_tests, nodes, few)
+    let same = sum-map node_count ts in
+    grind (arith, nat_tests, nodes, few, same)
