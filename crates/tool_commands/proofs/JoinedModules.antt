@@ -1,5 +1,5 @@
 -- Modules that are read within the limits of one value aren't too large together.
-use Rattle.std.proofs.Common.{◌≡◌, ℕ, ◌+◌, ◌-◌, ◌≤◌, ◌<◌, ◌^◌, ◌||◌, ◌++◌, Bool, false, List, [], ◌∷◌, Option, Some, None, option_and_then, option_map, nat_eq, nat_le, length, get_or, drop, codes, if◌then◌else◌, refl, sym, ap, ◌∙◌, subst, arith}
+use Rattle.std.proofs.Common.{◌≡◌, ℕ, ◌+◌, ◌-◌, ◌≤◌, ◌<◌, ◌^◌, ◌++◌, Bool, false, List, [], ◌∷◌, Option, Some, None, option_map, nat_eq, nat_le, length, get_or, drop, codes, if◌then◌else◌, refl, sym, ap, ◌∙◌, subst, arith}
 use Rattle.std.proofs.lemmas.Bool.{or_parts}
 use Rattle.std.proofs.lemmas.Bool.Decides.{nat_tests}
 use Rattle.std.proofs.lemmas.List.{drop_more}
@@ -8,7 +8,7 @@ use Rattle.std.specs.List.{sum_by}
 use Rattle.bundle_names.specs.Causes.{are_too_large}
 use Rattle.mangle_tool.proofs.WrappedWithin.{member_within}
 use Rattle.serde_json.proofs.Views.{Entry, members_len-members_view}
-use Rattle.serde_json.specs.Data.{Data, null, boolean, number, string, array, object, Items, no_items, item, Members}
+use Rattle.serde_json.specs.Data.{Data, null, boolean, number, string, array, object, Items, no_items, item}
 use Rattle.serde_json.specs.Events.{members_len}
 use Rattle.serde_json.specs.Find.{as_array, get_member}
 use Rattle.serde_json.specs.View.{items_view, members_view, view}
@@ -69,9 +69,10 @@ none_before (Some ts) = refl
 
 pub none_read : (vs ws : List Value) (ts : List Tree) → vs ≡ ws → ts ≡ [] → is_too_large (array (items_view ws)) 0 ≡ false
     → AreWithin (items_view vs) × (programs_of (items_view vs) ≡ option_map (λ (us : List Tree). ts ++ us) (programs_of (items_view vs)))
-none_read vs ws ts same none h =
-    (items_within (items_view vs) (subst (λ (x : List Value). is_too_large (array (items_view x)) 0 ≡ false) (sym same) h),
-    rw none (none_before (programs_of (items_view vs))))
+none_read vs ws ts same none h = (
+  items_within (items_view vs) (subst (λ (x : List Value). is_too_large (array (items_view x)) 0 ≡ false) (sym same) h),
+  rw none (none_before (programs_of (items_view vs))),
+)
 
 -- ---- the only member of an object
 

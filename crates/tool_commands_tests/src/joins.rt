@@ -43,8 +43,7 @@ const SCRIPT: &str =
     "{\"type\":\"Program\",\"body\":[{\"type\":\"ExpressionStatement\",\"expression\":{\"type\":\"Identifier\",\"name\":\"x\"}}],\"sourceType\":\"script\"}";
 
 // ``
-const NOTHING: &str =
-    "{\"type\":\"Program\",\"body\":[],\"sourceType\":\"module\"}";
+const NOTHING: &str = "{\"type\":\"Program\",\"body\":[],\"sourceType\":\"module\"}";
 
 // `eval("x")`
 const EVALUATES: &str =
@@ -111,7 +110,10 @@ fn other_modules_are_not_plain(rt: HostRuntime) -> Result<(), Fail> {
         format!(in alloc; "{EVALUATES},{FIRST}")?,
     ] {
         let (ended, text) = joined(alloc, modules.as_str())?;
-        assert!(rt; ended == ToolStatus::NotPlain && text.is_empty(), "{modules}");
+        assert!(rt;
+            ended == ToolStatus::NotPlain && text.is_empty(),
+            "{modules}"
+        );
     }
     Ok(())
 }
@@ -127,7 +129,10 @@ fn causes_come_in_order(rt: HostRuntime) -> Result<(), Fail> {
         (format!(in alloc; "{IMPORTS},")?, Status::NotJson),
     ] {
         let (ended, text) = joined(alloc, modules.as_str())?;
-        assert!(rt; ended == ToolStatus::Base(status) && text.is_empty(), "{modules}");
+        assert!(rt;
+            ended == ToolStatus::Base(status) && text.is_empty(),
+            "{modules}"
+        );
     }
     Ok(())
 }

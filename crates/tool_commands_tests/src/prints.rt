@@ -46,8 +46,7 @@ const TWO: &str =
     "{\"type\":\"Program\",\"body\":[{\"type\":\"ExpressionStatement\",\"expression\":{\"type\":\"Identifier\",\"name\":\"a\"}},{\"type\":\"ExpressionStatement\",\"expression\":{\"type\":\"Identifier\",\"name\":\"b\"}}],\"sourceType\":\"module\"}";
 
 // No statement.
-const NONE: &str =
-    "{\"type\":\"Program\",\"body\":[],\"sourceType\":\"module\"}";
+const NONE: &str = "{\"type\":\"Program\",\"body\":[],\"sourceType\":\"module\"}";
 
 // `;`
 const EMPTY_STATEMENT: &str =
@@ -83,7 +82,10 @@ fn expressions_have_their_lines(rt: HostRuntime) -> Result<(), Fail> {
 fn other_programs_are_not_printable(rt: HostRuntime) -> Result<(), Fail> {
     for tree in [THIS_NAME, DIRECTIVE, TWO, NONE, EMPTY_STATEMENT, BLOCK] {
         let (ended, text) = end(rt.alloc(), "print", tree)?;
-        assert!(rt; ended == ToolStatus::NotPrintable && text.is_empty(), "{tree}");
+        assert!(rt;
+            ended == ToolStatus::NotPrintable && text.is_empty(),
+            "{tree}"
+        );
     }
     Ok(())
 }
