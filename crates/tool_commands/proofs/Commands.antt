@@ -9,7 +9,8 @@ use Rattle.mangle_tool.specs.Run as run
 use Rattle.mangle_tool.specs.declared.status.Status.{Status}
 use Rattle.mangle_tool.specs.declared.status.Status.TheVariants as status
 use Rattle.mangle_tool.specs.declared.estree.error.MangleError.{MangleError}
-use Rattle.tool_commands.specs.Command.{IsToolAnswer, IsToolCause, IsWorkAsked, ToolTask, asked_by_word, command_word, mapping, plain, printing, reporting, restoring, tool_command_of}
+use Rattle.tool_commands.specs.Command.{IsToolAnswer, IsToolCause, IsWorkAsked, ToolTask, asked_by_word, command_word, joining, mapping, plain, printing, reporting, restoring, tool_command_of}
+use Rattle.tool_commands.specs.Join.{IsJoinable}
 use Rattle.tool_commands.specs.Map.{IsMapAnswer, IsMapBy}
 use Rattle.tool_commands.specs.Print.{IsPrintableInput}
 use Rattle.tool_commands.specs.Report.{IsReportable}
@@ -19,9 +20,9 @@ use Rattle.tool_commands.specs.declared.tool_status.ToolStatus.TheVariants.{Base
 use Rattle.tool_commands.specs.Tool.{HasBegunTo, HasDone, IsAnswerable, IsMaking, IsMapCause, WasRefused, reads}
 use Rattle.tool_commands.specs.declared.command.CommandWord.{CommandWord}
 use Rattle.tool_commands.specs.declared.command.ToolWork.{ToolWork}
-use Rattle.tool_commands.specs.declared.command.ToolWork.TheVariants.{Map, Print, Report, Restore}
+use Rattle.tool_commands.specs.declared.command.ToolWork.TheVariants.{Join, Map, Print, Report, Restore}
 use Rattle.tool_commands.specs.declared.refusal.Refusal.{Refusal}
-use Rattle.tool_commands.specs.declared.refusal.Refusal.TheVariants.{BadMap, BadSpan, Input, NotPrintable}
+use Rattle.tool_commands.specs.declared.refusal.Refusal.TheVariants.{BadMap, BadSpan, Input, NotPlain, NotPrintable}
 use Rattle.tool_outside.specs.Outside.{HasAnswered, HasBegunAnswer, HasRefused}
 use Rattle.tool_outside.specs.declared.carry_out.TheConstants.{INPUT_LIMIT}
 use Rattle.tool_words.specs.Words.{Flags, HasSettings, Settings, Task}
@@ -63,6 +64,7 @@ module _ (t : Option ToolTask) (left_old left_new : Option (List ℕ)) (given_ol
   })
   work_done Restore asks held_old held_new a = subst (λ (u : Option ToolTask). HasDone u left_old left_new given_old given_new held_old held_new) (sym asks) a
   work_done Print asks held_old held_new a = subst (λ (u : Option ToolTask). HasDone u left_old left_new given_old given_new held_old held_new) (sym asks) a
+  work_done Join asks held_old held_new a = subst (λ (u : Option ToolTask). HasDone u left_old left_new given_old given_new held_old held_new) (sym asks) a
   work_done Report asks held_old held_new a = subst (λ (u : Option ToolTask). HasDone u left_old left_new given_old given_new held_old held_new) (sym asks) a
 
   pub work_begun : (w : ToolWork) → IsWorkAsked t w → (held_old held_new : Option (List ℕ)) → HasBegunAnswer (IsToolAnswer w) left_old left_new given_old given_new held_old held_new
@@ -74,12 +76,14 @@ module _ (t : Option ToolTask) (left_old left_new : Option (List ℕ)) (given_ol
   })
   work_begun Restore asks held_old held_new a = subst (λ (u : Option ToolTask). HasBegunTo u left_old left_new given_old given_new held_old held_new) (sym asks) a
   work_begun Print asks held_old held_new a = subst (λ (u : Option ToolTask). HasBegunTo u left_old left_new given_old given_new held_old held_new) (sym asks) a
+  work_begun Join asks held_old held_new a = subst (λ (u : Option ToolTask). HasBegunTo u left_old left_new given_old given_new held_old held_new) (sym asks) a
   work_begun Report asks held_old held_new a = subst (λ (u : Option ToolTask). HasBegunTo u left_old left_new given_old given_new held_old held_new) (sym asks) a
 
   map_cause : (reserved many : ℕ) → many ≡ reserved → (r : Refusal) (o : MangleOptions) → many ≡ length (reserved_in o) → (input : List ℕ) → IsToolCause (Map o) r input → IsMapCause reserved r input
   map_cause reserved many e (Input x) o f input c = subst (λ (n : ℕ). IsCauseOf n x input) (sym f ∙ e) c
   map_cause reserved many e BadMap o f input c = absurd c
   map_cause reserved many e NotPrintable o f input c = absurd c
+  map_cause reserved many e NotPlain o f input c = absurd c
   map_cause reserved many e BadSpan o f input c = absurd c
 
   pub work_refused : (w : ToolWork) → IsWorkAsked t w → (r : Refusal) → HasRefused (IsToolCause w r) left_old left_new given_old given_new
@@ -91,12 +95,14 @@ module _ (t : Option ToolTask) (left_old left_new : Option (List ℕ)) (given_ol
   })
   work_refused Restore asks r a = subst (λ (u : Option ToolTask). WasRefused u left_old left_new given_old given_new r) (sym asks) a
   work_refused Print asks r a = subst (λ (u : Option ToolTask). WasRefused u left_old left_new given_old given_new r) (sym asks) a
+  work_refused Join asks r a = subst (λ (u : Option ToolTask). WasRefused u left_old left_new given_old given_new r) (sym asks) a
   work_refused Report asks r a = subst (λ (u : Option ToolTask). WasRefused u left_old left_new given_old given_new r) (sym asks) a
 
 pub work_reads : (t : Option ToolTask) (w : ToolWork) → IsWorkAsked t w → reads t ≡ true
 work_reads t (Map o) asks = ap reads asks.asked_for
 work_reads t Restore asks = ap reads asks
 work_reads t Print asks = ap reads asks
+work_reads t Join asks = ap reads asks
 work_reads t Report asks = ap reads asks
 
 -- what the work can answer
@@ -104,6 +110,7 @@ abbrev pub CanAnswer : ToolWork → List ℕ → Type 0
 CanAnswer (Map o) bytes = IsValidInput (length (reserved_in o)) bytes
 CanAnswer Restore bytes = IsRestorable bytes
 CanAnswer Print bytes = IsPrintableInput bytes
+CanAnswer Join bytes = IsJoinable bytes
 CanAnswer Report bytes = IsReportable bytes
 
 -- the bytes that are told are such an input
@@ -125,6 +132,10 @@ print_told : (left : Option (List ℕ)) → IsAnswerable (Some printing) left �
 print_told None can = absurd can
 print_told (Some bytes) can = record { bytes = bytes; is = refl; within = can.0; can = can.1 }
 
+join_told : (left : Option (List ℕ)) → IsAnswerable (Some joining) left → Told Join left
+join_told None can = absurd can
+join_told (Some bytes) can = record { bytes = bytes; is = refl; within = can.0; can = can.1 }
+
 report_told : (left : Option (List ℕ)) → IsAnswerable (Some reporting) left → Told Report left
 report_told None can = absurd can
 report_told (Some bytes) can = record { bytes = bytes; is = refl; within = can.0; can = can.1 }
@@ -133,12 +144,14 @@ pub work_told : (t : Option ToolTask) (w : ToolWork) → IsWorkAsked t w → (le
 work_told t (Map o) asks left can = map_told asks.settings o asks.has.reserved.many left (subst (λ (u : Option ToolTask). IsAnswerable u left) asks.asked_for can)
 work_told t Restore asks left can = restore_told left (subst (λ (u : Option ToolTask). IsAnswerable u left) asks can)
 work_told t Print asks left can = print_told left (subst (λ (u : Option ToolTask). IsAnswerable u left) asks can)
+work_told t Join asks left can = join_told left (subst (λ (u : Option ToolTask). IsAnswerable u left) asks can)
 work_told t Report asks left can = report_told left (subst (λ (u : Option ToolTask). IsAnswerable u left) asks can)
 
 pub work_not_made : (t : Option ToolTask) (w : ToolWork) → IsWorkAsked t w → ¬ IsMaking t
 work_not_made t (Map o) asks can = subst IsMaking asks.asked_for can
 work_not_made t Restore asks can = subst IsMaking asks can
 work_not_made t Print asks can = subst IsMaking asks can
+work_not_made t Join asks can = subst IsMaking asks can
 work_not_made t Report asks can = subst IsMaking asks can
 
 -- ---- a run
@@ -175,6 +188,7 @@ pub plain_refusal : (t : Option Task) (s : Status) (left_old left_new : Option (
 plain_refusal t s left_old left_new given_old given_new f (Input e) h n = plain_refused t left_old left_new given_old given_new e (f e (base_same s (base.refused_status e) h) (λ m. n (ap Base m)))
 plain_refusal t s left_old left_new given_old given_new f BadMap h n = absurd (cc)
 plain_refusal t s left_old left_new given_old given_new f NotPrintable h n = absurd (cc)
+plain_refusal t s left_old left_new given_old given_new f NotPlain h n = absurd (cc)
 plain_refusal t s left_old left_new given_old given_new f BadSpan h n = absurd (cc)
 
 pub plain_answerable : (t : Option Task) (left : Option (List ℕ)) → IsAnswerable (option_map plain t) left → run.IsAnswerable t left

@@ -1,5 +1,6 @@
 -- How a command ends tells how its work ended.
 use Rattle.std.proofs.Common.{◌≡◌, ◌≢◌, ◌⊎◌, ℕ, List, length, inl, inr, refl, ap, sym, ◌∙◌, subst, true≢false}
+use Rattle.bundle_names.specs.Causes.{are_plain, have_fault}
 use Rattle.list_laws.proofs.Tests.{none_some, some_one}
 use Rattle.mangle_options.specs.Settings.{reserved_in}
 use Rattle.mangle_tool.proofs.Ends.{valid_refused}
@@ -13,21 +14,23 @@ use Rattle.scope_report.specs.Found.{found_in}
 use Rattle.serde_json.specs.Data.{Data}
 use Rattle.tool_commands.proofs.Commands.{CanAnswer}
 use Rattle.tool_commands.specs.Command.{IsToolCause}
+use Rattle.tool_commands.specs.Join.{IsJoinable, IsJoinCause, IsModulesInput, modules_in}
 use Rattle.tool_commands.specs.Mapped.{Mapped, mapped, mapped_in}
 use Rattle.tool_commands.specs.Print.{IsPrintableInput, IsPrintableProgram, IsPrintCause}
 use Rattle.tool_commands.specs.Report.{IsReportable, IsReportCause, Sourced, sourced, sourced_in}
 use Rattle.tool_commands.specs.Restore.{IsRestorable, IsRestoreCause}
 use Rattle.tool_commands.specs.Status.{ended, refused_status}
 use Rattle.tool_commands.specs.declared.command.ToolWork.{ToolWork}
-use Rattle.tool_commands.specs.declared.command.ToolWork.TheVariants.{Map, Print, Report, Restore}
+use Rattle.tool_commands.specs.declared.command.ToolWork.TheVariants.{Join, Map, Print, Report, Restore}
 use Rattle.tool_commands.specs.declared.refusal.Refusal.{Refusal}
-use Rattle.tool_commands.specs.declared.refusal.Refusal.TheVariants.{BadMap, BadSpan, Input, NotPrintable}
+use Rattle.tool_commands.specs.declared.refusal.Refusal.TheVariants.{BadMap, BadSpan, Input, NotPlain, NotPrintable}
 use Rattle.tool_commands.specs.declared.tool_status.ToolStatus.{ToolStatus}
-use Rattle.tool_commands.specs.declared.tool_status.ToolStatus.TheVariants.{Base, BadMap as Misfit, BadSpan as Misplaced, NotPrintable as Unprintable}
+use Rattle.tool_commands.specs.declared.tool_status.ToolStatus.TheVariants.{Base, BadMap as Misfit, BadSpan as Misplaced, NotPlain as Unplain, NotPrintable as Unprintable}
 use Rattle.tool_outside.specs.Outside.{EndsUnlessRefused}
 use Rattle.tool_outside.specs.declared.read_all.ReadAllError.TheVariants as read
 use Rattle.tool_outside.specs.declared.work.Outcome.{Outcome}
 use Rattle.tool_outside.specs.declared.work.Outcome.TheVariants.{Done, Unread, Refused, Unwritten}
+use Rattle.tree_nodes.specs.Tree.{Tree}
 use Rattle.tree_core.specs.Limits.{is_too_large}
 
 -- the end of work that leads to this status; Memory has two, and BadArgument none
@@ -44,6 +47,7 @@ from_status (Base status.WriteFault) = Unwritten
 from_status (Base status.Memory) = Refused (Input error.Memory)
 from_status Misfit = Refused BadMap
 from_status Unprintable = Refused NotPrintable
+from_status Unplain = Refused NotPlain
 from_status Misplaced = Refused BadSpan
 
 told_back : (o : Outcome Refusal) → ended o ≢ Base status.Memory → from_status (ended o) ≡ o
@@ -59,6 +63,7 @@ told_back (Refused (Input error.BadScope)) n = refl
 told_back (Refused (Input error.Memory)) n = absurd (n refl)
 told_back (Refused BadMap) n = refl
 told_back (Refused NotPrintable) n = refl
+told_back (Refused NotPlain) n = refl
 told_back (Refused BadSpan) n = refl
 told_back Unwritten n = refl
 
@@ -97,6 +102,7 @@ refusal_back (Input error.BadScope) = refl
 refusal_back (Input error.Memory) = refl
 refusal_back BadMap = refl
 refusal_back NotPrintable = refl
+refusal_back NotPlain = refl
 refusal_back BadSpan = refl
 
 pub ended_refused : (o : Outcome Refusal) (r : Refusal) → ended o ≡ refused_status r → ended o ≢ Base status.Memory → o ≡ Refused r
@@ -120,6 +126,7 @@ restorable_refused input BadMap v cause =
     some_one (mapped cause.tree cause.undoing) (mapped v.tree v.undoing) (sym cause.read.is_mapped ∙ ap mapped_in (same_value input cause.read.value v.read.value cause.read.parses v.read.parses) ∙ v.read.is_mapped) in
     absurd (cause.misfit (subst (λ (m : Mapped). Fits m.tree m.undoing) (sym same) v.fits))
 restorable_refused input NotPrintable v cause = absurd cause
+restorable_refused input NotPlain v cause = absurd cause
 restorable_refused input BadSpan v cause = absurd cause
 
 reportable_refused : (input : List ℕ) (r : Refusal) → IsReportable input → IsReportCause r input → refused_status r ≡ Base status.Memory
@@ -132,6 +139,7 @@ reportable_refused input (Input error.BadScope) v cause = absurd cause
 reportable_refused input (Input error.Memory) v cause = refl
 reportable_refused input BadMap v cause = absurd cause
 reportable_refused input NotPrintable v cause = absurd cause
+reportable_refused input NotPlain v cause = absurd cause
 reportable_refused input BadSpan v cause =
     let same : sourced cause.source cause.tree ≡ sourced v.source v.tree =
     some_one (sourced cause.source cause.tree) (sourced v.source v.tree) (sym cause.read.is_sourced ∙ ap sourced_in (same_value input cause.read.value v.read.value cause.read.parses v.read.parses) ∙ v.read.is_sourced) in
@@ -151,15 +159,38 @@ printable_refused input NotPrintable v cause =
     let same : cause.tree ≡ v.tree =
     some_one cause.tree v.tree (sym cause.read.is_tree ∙ ap tree_in (same_value input cause.read.value v.read.value cause.read.parses v.read.parses) ∙ v.read.is_tree) in
     absurd (cause.unprintable (subst IsPrintableProgram (sym same) v.printable))
+printable_refused input NotPlain v cause = absurd cause
 printable_refused input BadSpan v cause = absurd cause
+
+same_modules : (input : List ℕ) (ts us : List Tree) → IsModulesInput input ts → IsModulesInput input us → ts ≡ us
+same_modules input ts us p q = some_one ts us (sym p.is_modules ∙ ap modules_in (same_value input p.value q.value p.parses q.parses) ∙ q.is_modules)
+
+joinable_refused : (input : List ℕ) (r : Refusal) → IsJoinable input → IsJoinCause r input → refused_status r ≡ Base status.Memory
+joinable_refused input (Input error.NotJson) v cause = absurd (none_some v.read.value (sym (cause v.read.parses.0) ∙ v.read.parses.1))
+joinable_refused input (Input error.TooLarge) v cause =
+    absurd (true≢false (sym cause.cause ∙ ap (λ (d : Data). is_too_large d 0) (same_value input cause.value v.read.value cause.parses v.read.parses) ∙ v.read.within))
+joinable_refused input (Input error.BadTree) v cause =
+    absurd (none_some v.modules (sym cause.cause.none ∙ ap modules_in (same_value input cause.value v.read.value cause.parses v.read.parses) ∙ v.read.is_modules))
+joinable_refused input (Input error.BadScope) v cause =
+    let same = same_modules input cause.modules v.modules cause.read v.read in
+    absurd (true≢false (sym cause.faulty ∙ ap have_fault same ∙ v.faultless))
+joinable_refused input (Input error.Memory) v cause = refl
+joinable_refused input BadMap v cause = absurd cause
+joinable_refused input NotPrintable v cause = absurd cause
+joinable_refused input NotPlain v cause =
+    let same = same_modules input cause.modules v.modules cause.read v.read in
+    absurd (true≢false (sym v.plain ∙ sym (ap are_plain same) ∙ cause.not_plain))
+joinable_refused input BadSpan v cause = absurd cause
 
 work_caused : (w : ToolWork) (input : List ℕ) (r : Refusal) → CanAnswer w input → IsToolCause w r input → refused_status r ≡ Base status.Memory
 work_caused (Map o) input (Input e) v cause = ap Base (valid_refused (length (reserved_in o)) input e v cause)
 work_caused (Map o) input BadMap v cause = absurd cause
 work_caused (Map o) input NotPrintable v cause = absurd cause
+work_caused (Map o) input NotPlain v cause = absurd cause
 work_caused (Map o) input BadSpan v cause = absurd cause
 work_caused Restore input r v cause = restorable_refused input r v cause
 work_caused Print input r v cause = printable_refused input r v cause
+work_caused Join input r v cause = joinable_refused input r v cause
 work_caused Report input r v cause = reportable_refused input r v cause
 
 pub work_ends : (w : ToolWork) (input : List ℕ) (o : Outcome Refusal) → CanAnswer w input → EndsUnlessRefused (λ r. IsToolCause w r input) o

@@ -14,3 +14,4 @@ pub mod MapValues
 pub mod MappedRead
 pub mod UndoneMaps
 mod OnlyNodes
+pub mod JoinedModules

@@ -1,8 +1,8 @@
 -- The first item of a list, as the node that its run begins with.
-use Rattle.std.proofs.Common.{◌≡◌, Option, Some, None, option_and_then, refl, IfSome}
+use Rattle.std.proofs.Common.{◌≡◌, Option, Some, None, refl}
 use Rattle.tool_commands.specs.Print.{first_node}
 use Rattle.tree_nodes.specs.Look.{item_at}
-use Rattle.tree_nodes.specs.Tree.{Parts, Tree, atom, child, done, empty, many}
+use Rattle.tree_nodes.specs.Tree.{Parts, Tree, atom, child, done, many}
 
 -- what stands in an item, if there is one
 abbrev pub node_within : Option (Option Tree) → Option Tree

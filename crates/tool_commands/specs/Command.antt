@@ -6,6 +6,7 @@ use Rattle.mangle_options.specs.Settings.{reserved_in}
 use Rattle.mangle_options.specs.declared.options.MangleOptions.{MangleOptions}
 use Rattle.mangle_tool.specs.Answer.{IsCauseOf}
 use Rattle.mangle_tool.specs.Asked.{asked_by}
+use Rattle.tool_commands.specs.Join.{IsJoinCause, IsJoinedAnswer}
 use Rattle.tool_commands.specs.Map.{IsMapAnswer}
 use Rattle.tool_commands.specs.Print.{IsPrintCause, IsPrinted}
 use Rattle.tool_commands.specs.Report.{IsReportCause, IsReported}
@@ -13,9 +14,9 @@ use Rattle.tool_commands.specs.Restore.{IsRestoreCause, IsRestored}
 use Rattle.tool_commands.specs.declared.command.CommandWord.{CommandWord}
 use Rattle.tool_commands.specs.declared.command.CommandWord.TheVariants as word
 use Rattle.tool_commands.specs.declared.command.ToolWork.{ToolWork}
-use Rattle.tool_commands.specs.declared.command.ToolWork.TheVariants.{Map, Print, Report, Restore}
+use Rattle.tool_commands.specs.declared.command.ToolWork.TheVariants.{Join, Map, Print, Report, Restore}
 use Rattle.tool_commands.specs.declared.refusal.Refusal.{Refusal}
-use Rattle.tool_commands.specs.declared.refusal.Refusal.TheVariants.{BadMap, BadSpan, Input, NotPrintable}
+use Rattle.tool_commands.specs.declared.refusal.Refusal.TheVariants.{BadMap, BadSpan, Input, NotPlain, NotPrintable}
 use Rattle.tool_words.specs.Words.{HasSettings, Settings, Task, command_of, settings_of}
 use Rattle.tool_words.specs.declared.command.Layout.{Layout}
 use Rattle.tool_words.specs.declared.command.Layout.TheVariants.{Compact}
@@ -32,6 +33,8 @@ pub data ToolTask : Type 0 where
   restoring : ToolTask
   -- to print the expression that a program is
   printing : ToolTask
+  -- to join modules in one scope
+  joining : ToolTask
   -- to tell what is found in a program
   reporting : ToolTask
 
@@ -42,6 +45,7 @@ command_word (w ∷ ws) =
     if bytes_eq w (codes "map") then Some word.Map
     else if bytes_eq w (codes "restore") then Some word.Restore
     else if bytes_eq w (codes "print") then Some word.Print
+    else if bytes_eq w (codes "join") then Some word.Join
     else if bytes_eq w (codes "report") then Some word.Report
     else None
 
@@ -52,6 +56,8 @@ work_of word.Restore [] = Some restoring
 work_of word.Restore (w ∷ ws) = None
 work_of word.Print [] = Some printing
 work_of word.Print (w ∷ ws) = None
+work_of word.Join [] = Some joining
+work_of word.Join (w ∷ ws) = None
 work_of word.Report [] = Some reporting
 work_of word.Report (w ∷ ws) = None
 
@@ -76,6 +82,7 @@ abbrev pub IsWorkAsked : Option ToolTask → ToolWork → Type 0
 IsWorkAsked asked (Map o) = AsksMapping asked o
 IsWorkAsked asked Restore = asked ≡ Some restoring
 IsWorkAsked asked Print = asked ≡ Some printing
+IsWorkAsked asked Join = asked ≡ Some joining
 IsWorkAsked asked Report = asked ≡ Some reporting
 
 abbrev pub IsToolAsked : List Text → Option ToolWork → Type 0
@@ -88,13 +95,16 @@ abbrev pub IsToolAnswer : ToolWork → (input text : List ℕ) → Type 0
 IsToolAnswer (Map o) input text = IsMapAnswer (asked_by o Compact) input text
 IsToolAnswer Restore input text = IsRestored input text
 IsToolAnswer Print input text = IsPrinted input text
+IsToolAnswer Join input text = IsJoinedAnswer input text
 IsToolAnswer Report input text = IsReported input text
 
 abbrev pub IsToolCause : ToolWork → Refusal → (input : List ℕ) → Type 0
 IsToolCause (Map o) (Input e) input = IsCauseOf (length (reserved_in o)) e input
 IsToolCause (Map o) BadMap input = ⊥
 IsToolCause (Map o) NotPrintable input = ⊥
+IsToolCause (Map o) NotPlain input = ⊥
 IsToolCause (Map o) BadSpan input = ⊥
 IsToolCause Restore r input = IsRestoreCause r input
 IsToolCause Print r input = IsPrintCause r input
+IsToolCause Join r input = IsJoinCause r input
 IsToolCause Report r input = IsReportCause r input

@@ -1,4 +1,5 @@
 pub mod Command
+pub mod Join
 pub mod Map
 pub mod Mapped
 pub mod Pairs

@@ -10,7 +10,7 @@ use Rattle.mangle_tool.specs.Answer.{IsOfValue, IsReadFrom}
 use Rattle.mangle_tool.specs.Input.{IsNotJson}
 use Rattle.mangle_tool.specs.declared.estree.error.MangleError.TheVariants.{NotJson, TooLarge, BadTree, BadScope, Memory}
 use Rattle.tool_commands.specs.declared.refusal.Refusal.{Refusal}
-use Rattle.tool_commands.specs.declared.refusal.Refusal.TheVariants.{BadMap, BadSpan, Input, NotPrintable}
+use Rattle.tool_commands.specs.declared.refusal.Refusal.TheVariants.{BadMap, BadSpan, Input, NotPlain, NotPrintable}
 use Rattle.tree_nodes.specs.Kinds.{is_kind}
 use Rattle.tree_nodes.specs.Look.{parts_len}
 use Rattle.tree_nodes.specs.Tree.{Parts, Tree, child, is_empty, many, part}
@@ -107,4 +107,5 @@ IsPrintCause (Input BadScope) input = ⊥
 IsPrintCause (Input Memory) input = Unit {0}
 IsPrintCause BadMap input = ⊥
 IsPrintCause NotPrintable input = IsUnprintable input
+IsPrintCause NotPlain input = ⊥
 IsPrintCause BadSpan input = ⊥

@@ -12,7 +12,7 @@ use Rattle.serde_json.specs.Data.{Data}
 use Rattle.serde_json.specs.Find.{as_str}
 use Rattle.tool_commands.specs.Pairs.{both, pair_in}
 use Rattle.tool_commands.specs.declared.refusal.Refusal.{Refusal}
-use Rattle.tool_commands.specs.declared.refusal.Refusal.TheVariants.{BadMap, BadSpan, Input, NotPrintable}
+use Rattle.tool_commands.specs.declared.refusal.Refusal.TheVariants.{BadMap, BadSpan, Input, NotPlain, NotPrintable}
 use Rattle.tree_core.specs.JsonOf.{json_of}
 use Rattle.tree_core.specs.Limits.{is_too_large}
 use Rattle.tree_core.specs.Reading.{tree_of}
@@ -112,4 +112,5 @@ IsReportCause (Input BadScope) input = ⊥
 IsReportCause (Input Memory) input = Unit {0}
 IsReportCause BadMap input = ⊥
 IsReportCause NotPrintable input = ⊥
+IsReportCause NotPlain input = ⊥
 IsReportCause BadSpan input = IsBadlySpanned input

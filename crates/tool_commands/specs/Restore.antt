@@ -12,7 +12,7 @@ use Rattle.oxc_estree.specs.Envelope.{envelope}
 use Rattle.serde_json.specs.Data.{Data}
 use Rattle.tool_commands.specs.Mapped.{both, mapped, mapped_in}
 use Rattle.tool_commands.specs.declared.refusal.Refusal.{Refusal}
-use Rattle.tool_commands.specs.declared.refusal.Refusal.TheVariants.{BadMap, BadSpan, Input, NotPrintable}
+use Rattle.tool_commands.specs.declared.refusal.Refusal.TheVariants.{BadMap, BadSpan, Input, NotPlain, NotPrintable}
 use Rattle.tree_core.specs.JsonOf.{json_of}
 use Rattle.tree_core.specs.Limits.{is_too_large}
 use Rattle.tree_core.specs.Reading.{tree_of}
@@ -84,4 +84,5 @@ IsRestoreCause (Input BadScope) input = ⊥
 IsRestoreCause (Input Memory) input = Unit {0}
 IsRestoreCause BadMap input = HasBadMap input
 IsRestoreCause NotPrintable input = ⊥
+IsRestoreCause NotPlain input = ⊥
 IsRestoreCause BadSpan input = ⊥

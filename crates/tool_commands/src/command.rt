@@ -4,6 +4,7 @@ ghost use Rattle.std.specs.Prelude.{◌≡◌, drop, IfOk, Err, None};
 ghost use Rattle.tool_commands.specs.Command as spec;
 ghost use Rattle.tool_commands.specs.Command.{IsToolAsked, IsWorkAsked, tool_command_of, work_of};
 
+use crate::joined_answer::joined_answer;
 use crate::map_answer::map_answer;
 use crate::printed_answer::printed_answer;
 use crate::refusal::Refusal;
@@ -23,6 +24,8 @@ pub enum ToolWork {
     Restore,
     /// To print the expression that a program is.
     Print,
+    /// To join modules in one scope.
+    Join,
     /// To tell what is found in a program, by line and column in its source text.
     Report,
 }
@@ -41,6 +44,7 @@ impl Work for ToolWork {
             ToolWork::Map(options) => Ok(map_answer(alloc, input, options)?),
             ToolWork::Restore => restored_answer(alloc, input),
             ToolWork::Print => printed_answer(alloc, input),
+            ToolWork::Join => joined_answer(alloc, input),
             ToolWork::Report => report_answer(alloc, input),
         }
     }
@@ -52,6 +56,7 @@ pub enum CommandWord {
     Map,
     Restore,
     Print,
+    Join,
     Report,
 }
 
@@ -93,6 +98,13 @@ fn read_work(alloc: Global, word: CommandWord, words: &[CompactStr]) -> Result<T
                 Err(WordError::BadArgument)
             }
         }
+        CommandWord::Join => {
+            if words.is_empty() {
+                Ok(ToolWork::Join)
+            } else {
+                Err(WordError::BadArgument)
+            }
+        }
         CommandWord::Report => {
             if words.is_empty() {
                 Ok(ToolWork::Report)
@@ -127,6 +139,9 @@ fn command_word(words: &[CompactStr]) -> Option<CommandWord>
     }
     if word == "print" {
         return Some(CommandWord::Print);
+    }
+    if word == "join" {
+        return Some(CommandWord::Join);
     }
     if word == "report" {
         return Some(CommandWord::Report);

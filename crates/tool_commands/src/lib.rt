@@ -2,6 +2,7 @@
 #![tactic(auto)]
 
 mod command;
+mod joined_answer;
 mod laws;
 mod map_answer;
 mod mapped_text;

@@ -12,6 +12,8 @@ pub enum Refusal {
     BadMap,
     /// The program isn't one expression that can be printed.
     NotPrintable,
+    /// A module isn't plain.
+    NotPlain,
     /// A place that has a finding starts past the source text or within a character.
     BadSpan,
 }

@@ -20,8 +20,8 @@ use mangle_tool::status::Status;
 use std::alloc::Global;
 use tool_outside::carry_out::carry_out;
 
-/// Does what the words of a command line ask for. Where the first word is `map`, `restore`, `print` or `report` it reads
-/// `source` to its end, writes the answer of that command to `sink` and settles it; else it does as [`run`] does.
+/// Does what the words of a command line ask for. Where the first word is `map`, `restore`, `print`, `join` or `report`
+/// it reads `source` to its end, writes the answer of that command to `sink` and settles it; else it does as [`run`] does.
 ///
 /// Nothing is written before the whole text is ready: at any status but `Done` and `WriteFault` the sink
 /// is as it was.

@@ -16,6 +16,8 @@ pub enum ToolStatus {
     BadMap,
     /// The program isn't one expression that can be printed.
     NotPrintable,
+    /// A module isn't plain.
+    NotPlain,
     /// A place that has a finding starts past the source text or within a character.
     BadSpan,
 }
@@ -29,6 +31,7 @@ impl ToolStatus {
             ToolStatus::Base(status) => status.number(),
             ToolStatus::BadMap => 11,
             ToolStatus::NotPrintable => 12,
+            ToolStatus::NotPlain => 13,
             ToolStatus::BadSpan => 14,
         }
     }
@@ -42,6 +45,7 @@ impl From<Refusal> for ToolStatus {
             Refusal::Input(error) => ToolStatus::Base(Status::from(error)),
             Refusal::BadMap => ToolStatus::BadMap,
             Refusal::NotPrintable => ToolStatus::NotPrintable,
+            Refusal::NotPlain => ToolStatus::NotPlain,
             Refusal::BadSpan => ToolStatus::BadSpan,
         }
     }
@@ -68,6 +72,7 @@ pub fn tool_line(status: ToolStatus) -> &'static str
         ToolStatus::Base(status) => status_line(status),
         ToolStatus::BadMap => "mangle: bad map",
         ToolStatus::NotPrintable => "mangle: not printable",
+        ToolStatus::NotPlain => "mangle: not plain",
         ToolStatus::BadSpan => "mangle: bad span",
     }
 }

@@ -1,4 +1,4 @@
-use Rattle.std.proofs.Common.{sym, ap, ◌∙◌}
+use Rattle.std.proofs.Common.{ap, ◌∙◌}
 use Rattle.tool_commands.proofs.OnlyNodes.{first_of_list, node_within}
 use Rattle.tool_commands.proofs.printed_answer.first_item.Goals as goal
 
