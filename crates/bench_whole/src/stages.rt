@@ -74,7 +74,9 @@ fn names_for(rt: &HostRuntime, program: &Program) -> Option<NewNames>
     let start = now(rt)?;
     let options = MangleOptions::new(rt.alloc());
     let top_level = !matches!(program.source_type(), SourceType::Script);
-    let given = names_by(rt.alloc(), &options, top_level, &tables).ok()?;
+    let Ok(given) = names_by(rt.alloc(), &options, top_level, &tables) else {
+        return None;
+    };
     drop(tables);
     tell(rt, "names", start)?;
     Some(given)
