@@ -58,5 +58,8 @@ fn answer(alloc: Global, words: &[CompactStr], input: &[u8]) -> Result<String, T
     if input.len() > INPUT_LIMIT {
         return Err(ToolStatus::Base(Status::InputTooLong));
     }
-    Ok(asked.answer(alloc, input)?)
+    match asked.answer(alloc, input) {
+        Ok(text) => Ok(text),
+        Err(refusal) => Err(ToolStatus::from(refusal)),
+    }
 }

@@ -1,8 +1,8 @@
 //! What words ask for on an input.
 
-ghost use Rattle.std.specs.Prelude.{◌≡◌, Err, IfOk, false};
+ghost use Rattle.std.specs.Prelude.{◌≡◌, Err, IfOk, None, false};
 ghost use Rattle.mangle_c.specs.Asked.{IsAskedBy};
-ghost use Rattle.tool_commands.specs.Command.{tool_command_of};
+ghost use Rattle.tool_commands.specs.Command.{command_word, tool_command_of};
 ghost use Rattle.tool_commands.specs.Tool.{reads};
 
 use mangle_tool::estree::{CompactStr, Layout, MangleOptions, mangle_estree};
@@ -44,11 +44,21 @@ pub fn read_asked(alloc: Global, words: &[CompactStr]) -> Result<Asked, WordErro
     ensures asked { IfOk result (IsAskedBy words.now) }
     ensures bad { result ≡ Err WordError.BadArgument → reads (tool_command_of words.now) ≡ false }
 {
-    if let Some(work) = read_tool_words(alloc, words)? {
-        return Ok(Asked::Command(work));
+    match read_tool_words(alloc, words)? {
+        Some(work) => Ok(Asked::Command(work)),
+        None => read_run(alloc, words),
     }
-    match read_words(alloc, words)? {
-        Command::Mangle(options, layout) => Ok(Asked::Run(options, layout)),
-        Command::Make(_) => Err(WordError::BadArgument),
+}
+
+// What the words ask for where the first names no command.
+fn read_run(alloc: Global, words: &[CompactStr]) -> Result<Asked, WordError>
+    requires plain { command_word words.now ≡ None }
+    ensures asked { IfOk result (IsAskedBy words.now) }
+    ensures bad { result ≡ Err WordError.BadArgument → reads (tool_command_of words.now) ≡ false }
+{
+    match read_words(alloc, words) {
+        Ok(Command::Mangle(options, layout)) => Ok(Asked::Run(options, layout)),
+        Ok(Command::Make(_)) => Err(WordError::BadArgument),
+        Err(error) => Err(error),
     }
 }

@@ -26,6 +26,9 @@ pub enum NoWords {
 }
 
 impl From<AllocError> for NoWords {
+    ghost use Rattle.std.specs.Prelude.{◌≡◌};
+    ghost use Rattle.mangle_c.specs.declared.words.NoWords.{NoWords};
+
     ghost from_gives = { λ _ error. error ≡ NoWords.Memory };
 
     fn from(_error: AllocError) -> Self {
