@@ -88,7 +88,7 @@ const OPTIONAL: &str =
 // The largest whole number, and a string of a lone surrogate, a quote and `a`.
 const MOST: &str = "{\"type\":\"Literal\",\"value\":18446744073709551615,\"raw\":\"0x0\"}";
 
-const UNITS: &str = "{\"type\":\"Literal\",\"value\":{\"units\":[55296,34,97]},\"raw\":\"\"}";
+const UNITS: &str = "{\"type\":\"Literal\",\"value\":[55296,34,97]}";
 
 // A reserved word as a name.
 const THIS_NAME: &str = "{\"type\":\"Identifier\",\"name\":\"this\"}";
