@@ -142,10 +142,7 @@ fn expressions_have_their_lines(rt: HostRuntime) -> Result<(), Fail> {
     ] {
         let program = program_of(rt.alloc(), expression)?;
         let (ended, text) = end(rt.alloc(), "print", program.as_str())?;
-        assert!(rt;
-            ended == ToolStatus::Base(Status::Done) && text.as_str() == wanted,
-            "{wanted}"
-        );
+        assert!(rt; ended == ToolStatus::Base(Status::Done) && text.as_str() == wanted);
     }
     Ok(())
 }
